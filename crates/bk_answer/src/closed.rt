@@ -1,17 +1,18 @@
 //! What was made of a feed that ended.
 
-ghost use Rattle.std.specs.Prelude.{IfOk};
+ghost use Rattle.std.specs.Prelude.{◌≡◌, IfOk};
 ghost use Rattle.bk_base.specs.Feed.{FeedValue};
 ghost use Rattle.bk_commit.specs.Ordering.{IsCommitted};
 ghost use Rattle.bk_order.specs.Orders.{AreRoundsOf, AreWaiting};
 ghost use Rattle.bk_answer.specs.Answers.{IsOrderMadeOf};
 ghost use Rattle.bk_answer.specs.Values.{order_value};
-ghost use Rattle.bk_answer.specs.RunReport.{committee_in, later_frames};
+ghost use Rattle.bk_answer.specs.RunReport.{committee_in, later_frames, reach_of};
 
 use bk_base::Row;
 use bk_cert::CertRef;
 use bk_ledger::Ledger;
 use bk_order::Intake;
+use bk_results::Status;
 use bk_rounds::Rounds;
 use std::alloc::AllocError;
 
@@ -34,6 +35,16 @@ impl<'a> ClosedOrder<'a> {
             self.now.intake.now.ordered.anchors }
     {
         self.intake.rounds()
+    }
+
+    /// How far the order goes: to its end, or to its first batch that is missing.
+    pub fn reach(&self) -> Status
+        ensures { result ≡ reach_of self.now.intake.now.ordered.payloads.missing }
+    {
+        match self.intake.missing() {
+            Some(_) => Status::Missing,
+            None => Status::Whole,
+        }
     }
 
     /// The places of the certificates that wait, by round and author. O(n log n) in the certificates that are held.

@@ -128,9 +128,6 @@ impl Answer for Report {
         let mut page = Page::new(alloc)?;
         let mut sheets = sheets_for(alloc, lines)?;
         write_shown(rt, sink, &mut page, &mut sheets, intake, ledger, &shown)?;
-        match intake.missing() {
-            Some(_) => Ok(Status::Missing),
-            None => Ok(Status::Whole),
-        }
+        Ok(closed.order.reach())
     }
 }

@@ -107,14 +107,13 @@ impl<'a, A: OrderAnswer> OrderAnswer for Judged<'a, A> {
         self.last
     }
 
-    fn write<K: Sink>(
+    fn text(
         &self,
         alloc: Global,
         order: &ClosedOrder<'_>,
-        sink: &mut K,
-    ) -> Result<Ended<A::End>, Fault> {
+    ) -> Result<(Ended<A::End>, Vec<u8>), AllocError> {
         let flaw = order.flaw_if(self.strict)?;
-        let end = self.answer.write(alloc, order, sink)?;
-        Ok(Ended { end, flaw })
+        let (end, text) = self.answer.text(alloc, order)?;
+        Ok((Ended { end, flaw }, text))
     }
 }

@@ -1,4 +1,3 @@
 pub mod ReplyTexts
 pub mod ReplyAnswers
 pub mod Statements
-pub mod ViewTexts

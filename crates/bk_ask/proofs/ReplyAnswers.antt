@@ -1,6 +1,5 @@
 -- What was made of a feed replies what the feed does.
 use Rattle.std.proofs.Common.{◌≡◌, ℕ, List, [], Option, true, refl, sym, subst, ◌∙◌, arith}
-use Rattle.bk_frames.specs.Device.{Device}
 use Rattle.bk_base.specs.Feed.{FeedValue, IsFeed, genesis_of}
 use Rattle.bk_base.specs.Genesis.{AreAccounts}
 use Rattle.bk_base.proofs.Accounts.{genesis_accounts}
@@ -13,23 +12,21 @@ use Rattle.bk_tx.specs.Batches.{transactions_of}
 use Rattle.bk_rules.specs.Fold.{receipts_of, state_after}
 use Rattle.bk_views.specs.Anchors.{AreRows}
 use Rattle.bk_views.specs.Told.{IsRun}
-use Rattle.bk_results.specs.declared.fault.Fault.{Fault}
-use Rattle.bk_results.specs.declared.fault.Fault.TheVariants as fault
 use Rattle.bk_results.specs.declared.query.Query.{Query}
 use Rattle.bk_results.specs.declared.query.Query.TheVariants as query
 use Rattle.bk_results.specs.declared.query.Reply.{Reply}
 use Rattle.bk_results.specs.declared.query.Reply.TheVariants as reply
-use Rattle.bk_answer.specs.Answers.{IsMadeOf, IsOrderMadeOf, WritesAnswer, WritesNot}
+use Rattle.bk_answer.specs.Answers.{IsMadeOf}
 use Rattle.bk_answer.specs.Closed.{ClosedValue, OrderValue, IsClosedFor, IsOrderedFor}
 use Rattle.bk_answer.specs.Gaps.{IsGapIn}
 use Rattle.bk_answer.specs.RunReport.{committee_in, later_frames}
 use Rattle.bk_answer.proofs.Counting.{few_places}
 use Rattle.bk_answer.proofs.Reports.{later_part}
-use Rattle.bk_ask.specs.Asking.{Ending, IsEndingOf, IsRepliedOf, Replies, HasText, ShowsFound, can_reply}
+use Rattle.bk_ask.specs.Asking.{Ending, IsEndingOf, IsRepliedOf, Replies, ShowsFound, can_reply}
 use Rattle.bk_ask.specs.declared.ordered.View.{View}
 use Rattle.bk_ask.specs.declared.ordered.View.TheVariants as view
 use Rattle.bk_ask.specs.declared.replied.Replied.{Replied}
-use Rattle.bk_ask.specs.private.Replies.{asked_by, course_in, ending_of, ShowsView, TextFails, WritesReply, WritesSome}
+use Rattle.bk_ask.specs.private.Replies.{asked_by, course_in, ending_of, ShowsView}
 
 -- ---- where a feed ends
 
@@ -57,29 +54,17 @@ gap_is feed o missing ordered same = record { clear = ordered.clear; ordered = o
 
 -- ---- with the batches executed
 
-module _ (asked : Query) (c : ClosedValue) (old new : Device) where
+module _ (asked : Query) (c : ClosedValue) where
   abbrev ended : Ending
   ended = ending_of c.order.taken c.order.opening c.ledger
 
-  pub replies : (answer : Replied) → WritesReply asked ended old new answer.reply → answer.missing ≡ c.order.taken.ordered.payloads.missing → WritesAnswer (IsMadeOf c) (IsRepliedOf asked) answer old new
-  replies answer w missing = (
-    λ feed made. (w.0, record { reply = record { end = ended; ending = ending_is feed c made.1; replies = w.1 }; gap = gap_is feed c.order answer.missing made.1.order missing }, w.2.1),
-    w.2.0,
-  )
-
-  pub replies_not : (f : Fault) → TextFails (HasText asked ended) old new f → WritesNot (IsMadeOf c) (IsRepliedOf asked) f old new
-  replies_not (fault.Feed found) t = absurd t
-  replies_not (fault.Collision id) t = absurd t
-  replies_not (fault.Equivocation round author first second) t = absurd t
-  replies_not (fault.Unfinished place) t = absurd t
-  replies_not (fault.Write written) t = (
-    λ feed made. (
-      record { reply = t.1.0; missing = c.order.taken.ordered.payloads.missing },
-      (t.0, record { reply = record { end = ended; ending = ending_is feed c made.1; replies = t.1.1 }; gap = gap_is feed c.order c.order.taken.ordered.payloads.missing made.1.order refl }, t.2, t.3),
-    ),
-    t.4,
-  )
-  replies_not fault.Memory t = t
+  -- the reply of what was made of it is that of each feed
+  pub replies : (answer : Replied) (text : List ℕ) → Replies asked ended answer.reply text → answer.missing ≡ c.order.taken.ordered.payloads.missing
+      → (feed : FeedValue) → IsMadeOf c feed → IsRepliedOf asked feed answer text
+  replies answer text r missing feed made = record {
+    reply = record { end = ended; ending = ending_is feed c made.1; replies = r };
+    gap = gap_is feed c.order answer.missing made.1.order missing;
+  }
 
 -- ---- by the order alone
 
@@ -111,27 +96,11 @@ module _ (feed : FeedValue) (o : OrderValue) (rounds : RoundsValue) (ordered : I
   shown view.Order text h = h
   shown view.Anchors text h = (h.0, subst (λ (z : Sizes). AreRows z rounds.held o.taken.ordered.anchors h.0) rounds_here.sizes h.1, h.2)
 
-  view_replied : (v : View) (missing : Option (List ℕ)) (text : List ℕ) → missing ≡ o.taken.ordered.payloads.missing → ShowsView v rounds o.taken text → IsRepliedOf (asked_by v) feed (record { reply = reply.Found; missing = missing }) text
+  pub view_replied : (v : View) (missing : Option (List ℕ)) (text : List ℕ) → missing ≡ o.taken.ordered.payloads.missing → ShowsView v rounds o.taken text → IsRepliedOf (asked_by v) feed (record { reply = reply.Found; missing = missing }) text
   view_replied view.Order missing text same h =
       record { reply = record { end = order_end; ending = order_end_is; replies = shown view.Order text h }; gap = gap_is feed o missing ordered same }
   view_replied view.Anchors missing text same h =
       record { reply = record { end = order_end; ending = order_end_is; replies = shown view.Anchors text h }; gap = gap_is feed o missing ordered same }
-
-module _ (v : View) (o : OrderValue) (rounds : RoundsValue) (rounds_here : (feed : FeedValue) → IsOrderMadeOf o feed → AreRoundsOf (committee_in feed) (later_frames feed) rounds) (old new : Device) where
-  pub view_writes : (missing : Option (List ℕ)) → missing ≡ o.taken.ordered.payloads.missing → WritesSome (ShowsView v rounds o.taken) old new
-      → WritesAnswer (IsOrderMadeOf o) (IsRepliedOf (asked_by v)) (record { reply = reply.Found; missing = missing }) old new
-  view_writes missing same w = (λ feed made. (w.0, view_replied feed o rounds made.1 (rounds_here feed made) v missing w.0 same w.1, w.2.1), w.2.0)
-
-  pub view_writes_not : (f : Fault) → TextFails (ShowsView v rounds o.taken) old new f → WritesNot (IsOrderMadeOf o) (IsRepliedOf (asked_by v)) f old new
-  view_writes_not (fault.Feed found) t = absurd t
-  view_writes_not (fault.Collision id) t = absurd t
-  view_writes_not (fault.Equivocation round author first second) t = absurd t
-  view_writes_not (fault.Unfinished place) t = absurd t
-  view_writes_not (fault.Write written) t = (
-    λ feed made. (record { reply = reply.Found; missing = o.taken.ordered.payloads.missing }, (t.0, view_replied feed o rounds made.1 (rounds_here feed made) v o.taken.ordered.payloads.missing t.0 refl t.1, t.2, t.3)),
-    t.4,
-  )
-  view_writes_not fault.Memory t = t
 
 -- ---- what a reply says whatever the bytes are
 

@@ -8,7 +8,7 @@ ghost use Rattle.bk_ask.specs.Asking.{IsRepliedOf, executes};
 use crate::ordered::view_of;
 use crate::replied::Replied;
 use crate::replying::Executed;
-use bk_answer::{Ended, Judged};
+use bk_answer::{AtOnce, Ended, Judged};
 use bk_follow::{Settings, answer_by_ledger, answer_by_order};
 use bk_frames::{Sink, Source};
 use bk_pool::Gate;
@@ -57,7 +57,9 @@ pub fn ask<R: Threads + Wait + Sync, S: Source, K: Sink, G: Gate + Sync>(
         }
         None => {
             let asked = Judged {
-                answer: &Executed { query },
+                answer: &AtOnce {
+                    answer: &Executed { query },
+                },
                 strict,
                 last: false,
             };

@@ -1,32 +1,26 @@
 //! What a feed that was closed replies to a query for which its batches are executed.
 
-ghost use Rattle.std.specs.Prelude.{◌≡◌, ◌∷◌, [], List, true, false, None, IfOk, IfErr, MatchOption, slice_get, string_bytes};
-ghost use Rattle.bk_frames.specs.Device.{CanBeUsed};
-ghost use Rattle.bk_base.specs.declared.genesis.Row.{Row};
+ghost use Rattle.std.specs.Prelude.{◌≡◌, ◌∷◌, [], true, false, None, IfOk, MatchOption, slice_get, string_bytes};
 ghost use Rattle.bk_rules.specs.Rows.{account_at};
 ghost use Rattle.bk_views.specs.Statement.{IsNowhere, IsStatement};
 ghost use Rattle.bk_views.specs.Told.{IsRun};
-ghost use Rattle.bk_base.specs.Feed.{FeedValue};
-ghost use Rattle.bk_answer.specs.Values.{closed_value};
-ghost use Rattle.bk_answer.specs.Answers.{IsMadeOf, WritesAnswer, WritesNot};
-ghost use Rattle.bk_ask.specs.Asking.{IsRepliedOf, Replies, HasText, ShowsAccount, ShowsReceipt, ShowsProof, executes};
+ghost use Rattle.bk_ask.specs.Asking.{IsRepliedOf, Replies, ShowsAccount, ShowsReceipt, ShowsProof, executes};
 ghost use Rattle.bk_report.specs.Leaves.{state_of};
 ghost use Rattle.bk_report.specs.Lines.{text_of};
 ghost use Rattle.bk_report.specs.declared.line.Line.TheVariants as line;
 ghost use Rattle.bk_results.specs.declared.query.Query.TheVariants as asked;
+ghost use Rattle.bk_results.specs.declared.query.Reply.TheVariants as reply;
 ghost use Rattle.bk_report.specs.Proofs.{IsAbsent};
-ghost use Rattle.bk_ask.specs.private.Replies.{TextFails, IsTextOf, course_in, ending_of};
-ghost use Rattle.bk_ask.specs.private.Replies.{WritesFound, WritesReply};
+ghost use Rattle.bk_ask.specs.private.Replies.{course_in, ending_of};
 
 use crate::replied::Replied;
-use bk_answer::{Answer, Closed};
+use bk_answer::{Closed, ClosedOrder, TextAnswer};
 use bk_base::Row;
 use bk_digest::{Digest32, tree_root_with};
-use bk_frames::{Sink, push_all};
 use bk_ledger::Ledger;
 use bk_order::Intake;
 use bk_report::{Line, leaves_of, proof_of, push_line};
-use bk_results::{Fault, Query, Reply};
+use bk_results::{Query, Reply};
 use bk_rules::{Account, Receipt};
 use bk_views::Statement;
 use std::alloc::{AllocError, Global};
@@ -128,10 +122,11 @@ fn verdict<R: Threads + Sync>(
     alloc: Global,
     intake: &Intake,
     ledger: &Ledger,
+    opening: &[Row],
     root: Digest32,
 ) -> Result<(Reply, Vec<u8>), AllocError>
-    ensures { IfOk result (λ v. (opening : List Row) →
-        Replies (asked.State root) (ending_of intake.now opening ledger.now) v.0 v.1.items) }
+    ensures { IfOk result (λ v. Replies (asked.State root)
+        (ending_of intake.now opening.now ledger.now) v.0 v.1.items) }
 {
     let digest = state_digest(rt, alloc, ledger)?;
     if root != digest {
@@ -144,40 +139,15 @@ fn verdict<R: Threads + Sync>(
     }
 }
 
-// Writes them.
-fn write_verdict<R: Threads + Sync, K: Sink>(
-    rt: &R,
-    alloc: Global,
-    sink: &mut K,
-    intake: &Intake,
-    ledger: &Ledger,
-    root: Digest32,
-) -> Result<Reply, Fault>
-    requires sound { CanBeUsed (K.state sink.old) }
-    ensures reply { IfOk result (λ r. (opening : List Row) →
-        WritesReply (asked.State root) (ending_of intake.now opening ledger.now)
-        (K.state sink.old) (K.state sink.new) r) }
-    ensures fault { IfErr result (λ f. (opening : List Row) →
-        TextFails (HasText (asked.State root) (ending_of intake.now opening ledger.now))
-        (K.state sink.old) (K.state sink.new) f) }
+// The reply that something was found, with its text, or that nothing was.
+fn reply_with(alloc: Global, found: Option<Vec<u8>>) -> (Reply, Vec<u8>)
+    ensures { MatchOption found ((result.0 ≡ reply.Absent) × (result.1.items ≡ []))
+        (λ text. (result.0 ≡ reply.Found) × (result.1 ≡ text)) }
 {
-    let (reply, text) = verdict(rt, alloc, intake, ledger, root)?;
-    push_all(sink, &text)?;
-    Ok(reply)
-}
-
-// Writes what was found.
-fn write_found<K: Sink>(sink: &mut K, found: Option<Vec<u8>>) -> Result<Reply, Fault>
-    requires sound { CanBeUsed (K.state sink.old) }
-    ensures out { IfOk result (WritesFound found (K.state sink.old) (K.state sink.new)) }
-    ensures fault { IfErr result (TextFails (IsTextOf found)
-        (K.state sink.old) (K.state sink.new)) }
-{
-    let Some(text) = found else {
-        return Ok(Reply::Absent);
-    };
-    push_all(sink, &text)?;
-    Ok(Reply::Found)
+    match found {
+        Some(text) => (Reply::Found, text),
+        None => (Reply::Absent, Vec::new(alloc)),
+    }
 }
 
 // The statement of the account with this id, where it is somewhere.
@@ -202,110 +172,60 @@ fn statement_of(
     statement.close()
 }
 
-// Writes it.
-fn write_statement<K: Sink>(
+// The reply with it.
+fn statement_reply(
     alloc: Global,
-    sink: &mut K,
     intake: &Intake,
     opening: &[Row],
     ledger: &Ledger,
     id: u64,
-) -> Result<Reply, Fault>
-    requires sound { CanBeUsed (K.state sink.old) }
+) -> Result<(Reply, Vec<u8>), AllocError>
     requires open { intake.now.failed ≡ false }
     requires run { IsRun (course_in intake.now opening.now ledger.now) ledger.now.receipts }
-    ensures reply { IfOk result (WritesReply (asked.Statement id)
-        (ending_of intake.now opening.now ledger.now) (K.state sink.old) (K.state sink.new)) }
-    ensures fault { IfErr result (TextFails
-        (HasText (asked.Statement id) (ending_of intake.now opening.now ledger.now))
-        (K.state sink.old) (K.state sink.new)) }
+    ensures { IfOk result (λ r. Replies (asked.Statement id)
+        (ending_of intake.now opening.now ledger.now) r.0 r.1.items) }
 {
     let Some(text) = statement_of(alloc, intake, opening, ledger, id)? else {
-        return Ok(Reply::Absent);
+        return Ok((Reply::Absent, Vec::new(alloc)));
     };
-    push_all(sink, text.as_bytes())?;
+    let bytes = text.into_bytes();
     match intake.missing() {
-        Some(_) => Ok(Reply::Short),
-        None => Ok(Reply::Found),
+        Some(_) => Ok((Reply::Short, bytes)),
+        None => Ok((Reply::Found, bytes)),
     }
 }
 
-// Writes the reply of what was ordered and executed.
-fn write_reply<R: Threads + Sync, K: Sink>(
+// The reply of what was ordered and executed.
+fn reply_of<R: Threads + Sync>(
     rt: &R,
     alloc: Global,
-    sink: &mut K,
     intake: &Intake,
     opening: &[Row],
     ledger: &Ledger,
     query: &Query,
-) -> Result<Reply, Fault>
-    requires sound { CanBeUsed (K.state sink.old) }
+) -> Result<(Reply, Vec<u8>), AllocError>
     requires executes { executes query.now ≡ true }
     requires open { intake.now.failed ≡ false }
     requires run { IsRun (course_in intake.now opening.now ledger.now) ledger.now.receipts }
-    ensures reply { IfOk result (WritesReply query.now
-        (ending_of intake.now opening.now ledger.now) (K.state sink.old) (K.state sink.new)) }
-    ensures fault { IfErr result (TextFails
-        (HasText query.now (ending_of intake.now opening.now ledger.now))
-        (K.state sink.old) (K.state sink.new)) }
+    ensures { IfOk result (λ r. Replies query.now (ending_of intake.now opening.now ledger.now) r.0 r.1.items) }
 {
     match *query {
         Query::Account { id } => {
             let found = account_text(alloc, ledger, id)?;
-            let reply = write_found(sink, found)?;
-            Ok(reply)
+            Ok(reply_with(alloc, found))
         }
         Query::Receipt { place } => {
             let found = receipt_text(alloc, ledger, place)?;
-            let reply = write_found(sink, found)?;
-            Ok(reply)
+            Ok(reply_with(alloc, found))
         }
         Query::Proof { id } => {
             let found = proof_text(rt, alloc, ledger, id)?;
-            let reply = write_found(sink, found)?;
-            Ok(reply)
+            Ok(reply_with(alloc, found))
         }
-        Query::State { root } => {
-            let reply = write_verdict(rt, alloc, sink, intake, ledger, root)?;
-            Ok(reply)
-        }
-        Query::Statement { id } => {
-            let reply = write_statement(alloc, sink, intake, opening, ledger, id)?;
-            Ok(reply)
-        }
+        Query::State { root } => verdict(rt, alloc, intake, ledger, opening, root),
+        Query::Statement { id } => statement_reply(alloc, intake, opening, ledger, id),
         Query::Order | Query::Anchors => unreachable!(),
     }
-}
-
-// Writes the reply of a feed that was closed. Returns at which missing batch its order stops, too.
-fn reply_closed<R: Threads + Sync, K: Sink>(
-    rt: &R,
-    alloc: Global,
-    sink: &mut K,
-    closed: &Closed<'_>,
-    query: &Query,
-) -> Result<Replied, Fault>
-    requires sound { CanBeUsed (K.state sink.old) }
-    requires executes { executes query.now ≡ true }
-    requires closed { (feed : FeedValue) × IsMadeOf (closed_value closed.now) feed }
-    ensures out { IfOk result (λ end. WritesAnswer (IsMadeOf (closed_value closed.now)) (IsRepliedOf query.now) end
-        (K.state sink.old) (K.state sink.new)) }
-    ensures fault { IfErr result (λ f. WritesNot (IsMadeOf (closed_value closed.now)) (IsRepliedOf query.now) f
-        (K.state sink.old) (K.state sink.new)) }
-{
-    let order = &closed.order;
-    let reply = write_reply(
-        rt,
-        alloc,
-        sink,
-        order.intake,
-        order.opening,
-        closed.ledger,
-        query,
-    )?;
-    let missing = order.intake.missing().copied();
-    Ok(Replied { reply, missing })
 }
 
 /// A query for which the batches of the order are executed, as what a feed answers.
@@ -314,20 +234,22 @@ pub(crate) struct Executed {
     pub(crate) query: Query,
 }
 
-impl Answer for Executed {
+impl TextAnswer for Executed {
     type End = Replied;
 
     ghost can_ask = { λ asked. executes asked.query ≡ true };
 
     ghost text = { λ asked. IsRepliedOf asked.query };
 
-    fn write<R: Threads + Sync, K: Sink>(
+    fn text<R: Threads + Sync>(
         &self,
         rt: &R,
         alloc: Global,
         closed: &Closed<'_>,
-        sink: &mut K,
-    ) -> Result<Replied, Fault> {
-        reply_closed(rt, alloc, sink, closed, &self.query)
+    ) -> Result<(Replied, Vec<u8>), AllocError> {
+        let ClosedOrder { intake, opening } = closed.order;
+        let (reply, text) = reply_of(rt, alloc, intake, opening, closed.ledger, &self.query)?;
+        let missing = intake.missing().copied();
+        Ok((Replied { reply, missing }, text))
     }
 }

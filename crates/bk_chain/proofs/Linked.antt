@@ -6,15 +6,10 @@ use Rattle.bk_base.specs.declared.version.Version.{Version}
 use Rattle.bk_base.specs.Feed.{FeedValue, genesis_of}
 use Rattle.bk_base.proofs.Accounts.{genesis_few}
 use Rattle.bk_committee.specs.Payload.{CommitteeValue, committee_bytes, committee_of}
-use Rattle.bk_frames.specs.Device.{Device}
-use Rattle.bk_frames.specs.Writing.{Writes}
 use Rattle.bk_ledger.proofs.Growth.{state_long}
 use Rattle.bk_report.specs.Leaves.{state_of}
-use Rattle.bk_results.specs.declared.fault.Fault.{Fault}
-use Rattle.bk_results.specs.declared.fault.Fault.TheVariants as fault
-use Rattle.bk_results.specs.declared.status.Status.{Status}
 use Rattle.bk_tx.specs.Batches.{transactions_of}
-use Rattle.bk_answer.specs.Answers.{IsMadeOf, WritesAnswer, WritesNot}
+use Rattle.bk_answer.specs.Answers.{IsMadeOf}
 use Rattle.bk_answer.specs.Closed.{ClosedValue, IsClosedFor}
 use Rattle.bk_answer.specs.Outcomes.{Outcome, IsOutcomeOf}
 use Rattle.bk_answer.specs.RunReport.{committee_in, later_frames}
@@ -23,7 +18,7 @@ use Rattle.bk_answer.proofs.Reports.{later_part}
 use Rattle.bk_chain.specs.declared.link.LinkValue.{LinkValue}
 use Rattle.bk_chain.specs.Line.{link_line}
 use Rattle.bk_chain.specs.Linking.{IsLinkOf, IsLinkText}
-use Rattle.bk_chain.specs.private.Linking.{IsLinkOfClosed, LineFails}
+use Rattle.bk_chain.specs.private.Linking.{IsLinkOfClosed}
 
 version_is : (v : Version) (payload : List ℕ) → (committee_of v payload).version ≡ v
 version_is v [] = refl
@@ -62,17 +57,6 @@ rows_few c (feed, (good, closed)) =
     let same = ap length closed.executed.rows in
     omega (arith, few, same, state_long feed.version (transactions_of c.order.taken.ordered.payloads.list) (genesis_of feed.frames), genesis_few feed.frames)
 
-module _ (c : ClosedValue) (v : LinkValue) (is : IsLinkOfClosed c v) (old new : Device) where
-  -- what was written is its line
-  pub writes : (end : Status) → Writes (link_line v ++ codes "\n") old new → end ≡ v.end → WritesAnswer (IsMadeOf c) IsLinkText end old new
-  writes end w e = (λ feed made. (link_line v ++ codes "\n", record { reached = outcome_of c; link = v; is_link = link_is feed c made.1 v is; text_is = refl; answer_is = e }, w.1), w.0)
-
-  -- or the front of it
-  pub writes_not : (f : Fault) → LineFails v old new f → WritesNot (IsMadeOf c) IsLinkText f old new
-  writes_not (fault.Feed found) t = absurd t
-  writes_not (fault.Collision id) t = absurd t
-  writes_not (fault.Equivocation round author first second) t = absurd t
-  writes_not (fault.Unfinished place) t = absurd t
-  writes_not (fault.Write written) t =
-      (λ feed made. (v.end, (link_line v ++ codes "\n", record { reached = outcome_of c; link = v; is_link = link_is feed c made.1 v is; text_is = refl; answer_is = refl }, t.0, t.1)), t.2)
-  writes_not fault.Memory t = t
+-- its line is the answer of each feed
+pub answers : (c : ClosedValue) (v : LinkValue) (text : List ℕ) → IsLinkOfClosed c v → text ≡ link_line v ++ codes "\n" → (feed : FeedValue) → IsMadeOf c feed → IsLinkText feed v.end text
+answers c v text is t feed made = record { reached = outcome_of c; link = v; is_link = link_is feed c made.1 v is; text_is = t; answer_is = refl }

@@ -1,24 +1,19 @@
-//! The link of a feed, written.
+//! The link of a feed, as text.
 
-ghost use Rattle.std.specs.Prelude.{◌≡◌, ◌++◌, ◌<◌, ◌^◌, codes, length, OnOk, IfOk, IfErr, string_bytes};
-ghost use Rattle.bk_frames.specs.Device.{CanBeUsed};
-ghost use Rattle.bk_frames.specs.Writing.{Writes};
+ghost use Rattle.std.specs.Prelude.{◌≡◌, ◌++◌, ◌<◌, ◌^◌, codes, length, IfOk, string_bytes};
 ghost use Rattle.bk_report.specs.Leaves.{state_of};
-ghost use Rattle.bk_answer.specs.RunReport.{reach_of};
 ghost use Rattle.bk_answer.specs.Values.{closed_value};
 ghost use Rattle.bk_chain.specs.Line.{link_line};
 ghost use Rattle.bk_chain.specs.Linking.{IsLinkText};
-ghost use Rattle.bk_chain.specs.private.Linking.{IsLinkOfClosed, LineFails};
+ghost use Rattle.bk_chain.specs.private.Linking.{IsLinkOfClosed};
 
 use crate::line::push_link;
 use crate::link::LinkValue;
-use bk_answer::{Answer, Closed};
+use bk_answer::{Closed, TextAnswer};
 use bk_base::Row;
 use bk_digest::{Digest32, tree_root_with};
-use bk_frames::{Sink, push_all};
-use bk_order::Intake;
 use bk_report::leaves_of;
-use bk_results::{Fault, Status};
+use bk_results::Status;
 use bk_summary::committee_digest;
 use std::alloc::{AllocError, Global};
 use std::thread::Threads;
@@ -33,16 +28,6 @@ fn state_digest<R: Threads + Sync>(
 {
     let leaves = leaves_of(alloc, rows)?;
     Ok(tree_root_with(rt, &leaves))
-}
-
-// Whether a batch of the order is missing.
-fn end_of(intake: &Intake) -> Status
-    ensures { result ≡ reach_of intake.now.ordered.payloads.missing }
-{
-    match intake.missing() {
-        Some(_) => Status::Missing,
-        None => Status::Whole,
-    }
 }
 
 // The link of a feed that was closed.
@@ -69,7 +54,7 @@ fn link_closed<R: Threads + Sync>(
         accounts: rows.len() as u32,
         money: ledger.state().total(),
         transactions: ledger.receipts().len() as u32,
-        end: end_of(intake),
+        end: closed.order.reach(),
     })
 }
 
@@ -83,38 +68,25 @@ fn text_of(alloc: Global, link: &LinkValue) -> Result<String, AllocError>
     Ok(text)
 }
 
-// Writes it.
-fn write_link<K: Sink>(alloc: Global, sink: &mut K, link: &LinkValue) -> Result<(), Fault>
-    requires sound { CanBeUsed (K.state sink.old) }
-    ensures out { OnOk result (Writes (link_line link.now ++ codes "\n")
-        (K.state sink.old) (K.state sink.new)) }
-    ensures fault { IfErr result (LineFails link.now (K.state sink.old) (K.state sink.new)) }
-{
-    let text = text_of(alloc, link)?;
-    push_all(sink, text.as_bytes())?;
-    Ok(())
-}
-
 /// The link of a feed, as what it answers: one line. It ends with whether a batch of the order is missing.
 #[derive(Clone, Copy)]
 pub struct Link;
 
-impl Answer for Link {
+impl TextAnswer for Link {
     type End = Status;
 
     ghost can_ask = { λ _. Unit {0} };
 
     ghost text = { λ _. IsLinkText };
 
-    fn write<R: Threads + Sync, K: Sink>(
+    fn text<R: Threads + Sync>(
         &self,
         rt: &R,
         alloc: Global,
         closed: &Closed<'_>,
-        sink: &mut K,
-    ) -> Result<Status, Fault> {
+    ) -> Result<(Status, Vec<u8>), AllocError> {
         let link = link_closed(rt, alloc, closed)?;
-        write_link(alloc, sink, &link)?;
-        Ok(link.end)
+        let text = text_of(alloc, &link)?;
+        Ok((link.end, text.into_bytes()))
     }
 }

@@ -4,4 +4,3 @@ pub mod Graph
 pub mod Shows
 pub mod Colliding
 pub mod Twins
-pub mod Writing

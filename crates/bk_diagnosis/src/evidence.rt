@@ -1,25 +1,18 @@
 //! All evidence in the frames of a feed.
 
-ghost use Rattle.std.specs.Prelude.{◌≡◌, ◌++◌, [], map, IfOk, IfErr, OnOk};
-ghost use Rattle.bk_base.specs.Feed.{FeedValue};
-ghost use Rattle.bk_frames.specs.Device.{CanBeUsed};
-ghost use Rattle.bk_frames.specs.Writing.{Writes};
-ghost use Rattle.bk_answer.specs.Answers.{IsTakenOf, WritesAnswer, WritesNot};
-ghost use Rattle.bk_diagnosis.specs.Answers.{ShowsLines, are_some};
+ghost use Rattle.std.specs.Prelude.{◌≡◌, ◌++◌, [], map, IfOk, OnOk, string_bytes};
+ghost use Rattle.bk_diagnosis.specs.Answers.{ShowsLines};
 ghost use Rattle.bk_diagnosis.specs.Evidence.{IsAllEvidence, IsEvidenceIn};
 ghost use Rattle.bk_diagnosis.specs.Lines.{text_of};
-ghost use Rattle.bk_diagnosis.specs.private.Writing.{TextStops};
 ghost use Rattle.bk_diagnosis.specs.declared.line.Line.TheVariants as line;
 
 use crate::colliding::colliding_ids;
-use crate::line::{Line, push_lines};
+use crate::line::{Line, has_lines, push_lines};
 use crate::twins::{add_twins, named_in_order};
 use bk_answer::FrameAnswer;
 use bk_digest::Digest32;
 use bk_evidence::{Batches, Held};
-use bk_frames::{Sink, push_all};
 use bk_order::Intake;
-use bk_results::Fault;
 use std::alloc::{AllocError, Global};
 
 // The lines of all evidence in what is held.
@@ -45,30 +38,13 @@ fn add_collisions(lines: &mut Vec<Line>, ids: &[Digest32]) -> Result<(), AllocEr
     Ok(())
 }
 
-// Writes lines. Returns whether there is one.
-fn write_lines<K: Sink>(alloc: Global, sink: &mut K, lines: &[Line]) -> Result<bool, Fault>
-    requires sound { CanBeUsed (K.state sink.old) }
-    ensures out { IfOk result (λ some. (some ≡ are_some lines.now)
-        × Writes (text_of lines.now) (K.state sink.old) (K.state sink.new)) }
-    ensures fault { IfErr result (TextStops (text_of lines.now) (K.state sink.old)
-        (K.state sink.new)) }
+// The text of lines.
+fn text_of_lines(alloc: Global, lines: &[Line]) -> Result<String, AllocError>
+    ensures { IfOk result (λ text. string_bytes text ≡ text_of lines.now) }
 {
     let mut text = String::new(alloc);
     push_lines(&mut text, lines)?;
-    push_all(sink, text.as_bytes())?;
-    Ok(!lines.is_empty())
-}
-
-// Writes the evidence in what was taken. Returns whether there is some.
-fn write_evidence<K: Sink>(alloc: Global, intake: &Intake, sink: &mut K) -> Result<bool, Fault>
-    requires sound { CanBeUsed (K.state sink.old) }
-    ensures out { IfOk result (λ end. WritesAnswer (IsTakenOf intake.now)
-        (ShowsLines IsEvidenceIn) end (K.state sink.old) (K.state sink.new)) }
-    ensures fault { IfErr result (λ f. WritesNot (IsTakenOf intake.now)
-        (ShowsLines IsEvidenceIn) f (K.state sink.old) (K.state sink.new)) }
-{
-    let lines = all_evidence(alloc, intake.held(), intake.stored())?;
-    write_lines(alloc, sink, &lines)
+    Ok(text)
 }
 
 /// All evidence in the frames of a feed, whether something stops it or not: each id or digest that collides, and then each
@@ -83,7 +59,9 @@ impl FrameAnswer for Evidence {
 
     ghost text = { λ _. ShowsLines IsEvidenceIn };
 
-    fn write<K: Sink>(&self, alloc: Global, intake: &Intake, sink: &mut K) -> Result<bool, Fault> {
-        write_evidence(alloc, intake, sink)
+    fn text(&self, alloc: Global, intake: &Intake) -> Result<(bool, Vec<u8>), AllocError> {
+        let lines = all_evidence(alloc, intake.held(), intake.stored())?;
+        let text = text_of_lines(alloc, &lines)?;
+        Ok((has_lines(&text), text.into_bytes()))
     }
 }

@@ -16,7 +16,6 @@ mod missing;
 mod rejects;
 mod twins;
 mod waiting;
-mod writing;
 
 pub use evidence::Evidence;
 pub use evidence_laws::{evidence_is_exact, evidence_stays, evidence_stops, one_list_of_evidence};

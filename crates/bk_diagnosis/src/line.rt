@@ -1,7 +1,9 @@
 //! The lines of a diagnosis.
 
-ghost use Rattle.std.specs.Prelude.{◌≡◌, ◌++◌, Some, OnOk, string_bytes};
+ghost use Rattle.std.specs.Prelude.{◌≡◌, ◌++◌, List, Some, OnOk, string_bytes};
+ghost use Rattle.bk_diagnosis.specs.Answers.{are_some};
 ghost use Rattle.bk_diagnosis.specs.Lines.{line_text, text_of};
+ghost use Rattle.bk_diagnosis.specs.declared.line.Line.{Line};
 
 use bk_certcheck::Rule;
 use bk_digest::Digest32;
@@ -108,4 +110,11 @@ pub fn push_lines(text: &mut String, lines: &[Line]) -> Result<(), AllocError>
         writeln!(text, "{line}")?;
     }
     Ok(())
+}
+
+/// Whether there is a line in the text of lines.
+pub(crate) fn has_lines(text: &str) -> bool
+    ensures { (lines : List Line) → text.now ≡ text_of lines → result ≡ are_some lines }
+{
+    !text.is_empty()
 }

@@ -1,24 +1,17 @@
 //! The batches that the order of a feed lacks, as what a feed answers.
 
-ghost use Rattle.std.specs.Prelude.{◌≡◌, Contains, IfOk, IfErr, string_bytes};
-ghost use Rattle.bk_base.specs.Feed.{FeedValue};
+ghost use Rattle.std.specs.Prelude.{◌≡◌, Contains, IfOk, string_bytes};
 ghost use Rattle.bk_cert.specs.declared.place.CertRef.{CertRef};
-ghost use Rattle.bk_frames.specs.Device.{CanBeUsed};
 ghost use Rattle.bk_rounds.specs.Admission.{IsPresent};
-ghost use Rattle.bk_answer.specs.Answers.{IsOrderMadeOf};
-ghost use Rattle.bk_answer.specs.Values.{order_value};
 ghost use Rattle.bk_diagnosis.specs.Answers.{ShowsLines};
 ghost use Rattle.bk_diagnosis.specs.Lines.{text_of};
 ghost use Rattle.bk_diagnosis.specs.Missing.{AreMissingIn};
 ghost use Rattle.bk_diagnosis.specs.private.Lacking.{missing_lines};
-ghost use Rattle.bk_diagnosis.specs.private.Shows.{WritesLines, LinesFail};
 
 use crate::lacking::lacks_of;
-use crate::writing::write_text;
+use crate::line::has_lines;
 use bk_answer::{ClosedOrder, OrderAnswer};
-use bk_frames::Sink;
 use bk_order::Intake;
-use bk_results::Fault;
 use bk_rounds::Rounds;
 use std::alloc::{AllocError, Global};
 
@@ -35,25 +28,6 @@ fn text_of_missing(alloc: Global, intake: &Intake, rounds: &Rounds) -> Result<St
     Ok(text)
 }
 
-// Writes them.
-fn write_missing<K: Sink>(
-    alloc: Global,
-    sink: &mut K,
-    intake: &Intake,
-    rounds: &Rounds,
-) -> Result<bool, Fault>
-    requires sound { CanBeUsed (K.state sink.old) }
-    requires present { (a : CertRef) → Contains intake.now.ordered.order a
-        → IsPresent rounds.now.sizes rounds.now.held a }
-    ensures out { IfOk result (WritesLines (missing_lines rounds.now intake.now)
-        (K.state sink.old) (K.state sink.new)) }
-    ensures fault { IfErr result (LinesFail (missing_lines rounds.now intake.now)
-        (K.state sink.old) (K.state sink.new)) }
-{
-    let text = text_of_missing(alloc, intake, rounds)?;
-    write_text(sink, &text)
-}
-
 /// The batches that the order of a feed lacks, as what a feed answers: a line for each digest that an ordered certificate
 /// names and that no batch frame has, in the order in which these name them first. It ends with whether there is one.
 #[derive(Clone, Copy)]
@@ -66,13 +40,9 @@ impl OrderAnswer for Missing {
 
     ghost text = { λ _. ShowsLines AreMissingIn };
 
-    fn write<K: Sink>(
-        &self,
-        alloc: Global,
-        order: &ClosedOrder<'_>,
-        sink: &mut K,
-    ) -> Result<bool, Fault> {
+    fn text(&self, alloc: Global, order: &ClosedOrder<'_>) -> Result<(bool, Vec<u8>), AllocError> {
         let rounds = order.rounds();
-        write_missing(alloc, sink, order.intake, rounds)
+        let text = text_of_missing(alloc, order.intake, rounds)?;
+        Ok((has_lines(&text), text.into_bytes()))
     }
 }

@@ -1,24 +1,20 @@
 //! What keeps the certificates that wait from being admitted, as what a feed answers.
 
-ghost use Rattle.std.specs.Prelude.{◌≡◌, ◌↔◌, Contains, IfOk, IfErr, OnOk, string_bytes};
+ghost use Rattle.std.specs.Prelude.{◌≡◌, ◌↔◌, Contains, IfOk, OnOk, string_bytes};
 ghost use Rattle.bk_cert.specs.Node.{Node};
 ghost use Rattle.bk_cert.specs.declared.place.CertRef.{CertRef};
 ghost use Rattle.bk_committee.specs.Payload.{sizes_of};
-ghost use Rattle.bk_frames.specs.Device.{CanBeUsed};
 ghost use Rattle.bk_rounds.specs.Admission.{WaitsAt};
 ghost use Rattle.bk_diagnosis.specs.Answers.{ShowsLines};
 ghost use Rattle.bk_diagnosis.specs.Waiting.{AreWaitingIn};
 ghost use Rattle.bk_diagnosis.specs.private.Graph.{AddsWaiting, AreLinesOf, IsEntry, graph_of};
-ghost use Rattle.bk_diagnosis.specs.private.Shows.{HasText, WritesSome, SomeFail};
+ghost use Rattle.bk_diagnosis.specs.private.Shows.{HasText};
 
 use crate::graph::Graph;
-use crate::line::{Line, push_lines};
-use crate::writing::write_text;
+use crate::line::{Line, has_lines, push_lines};
 use bk_answer::{ClosedOrder, OrderAnswer};
 use bk_cert::CertRef;
-use bk_frames::Sink;
 use bk_order::Intake;
-use bk_results::Fault;
 use bk_rounds::Rounds;
 use std::alloc::{AllocError, Global};
 
@@ -70,25 +66,6 @@ fn text_of_waiting(alloc: Global, intake: &Intake, rounds: &Rounds) -> Result<St
     Ok(text)
 }
 
-// Writes them.
-fn write_waiting<K: Sink>(
-    alloc: Global,
-    sink: &mut K,
-    intake: &Intake,
-    rounds: &Rounds,
-) -> Result<bool, Fault>
-    requires sound { CanBeUsed (K.state sink.old) }
-    requires sizes { rounds.now.sizes ≡ sizes_of intake.now.committee }
-    requires same { (c : Node) → Contains intake.now.kept.certs c ↔ Contains rounds.now.held c }
-    ensures out { IfOk result (WritesSome (AreLinesOf (graph_of rounds.now intake.now))
-        (K.state sink.old) (K.state sink.new)) }
-    ensures fault { IfErr result (SomeFail (AreLinesOf (graph_of rounds.now intake.now))
-        (K.state sink.old) (K.state sink.new)) }
-{
-    let text = text_of_waiting(alloc, intake, rounds)?;
-    write_text(sink, &text)
-}
-
 /// What keeps the certificates that wait from being admitted, as what a feed answers: a line for each, by round and
 /// author, and after it one for each parent that keeps it, by id, or where none does the weight of the parents' authors.
 /// It ends with whether there is a line.
@@ -102,13 +79,9 @@ impl OrderAnswer for Waiting {
 
     ghost text = { λ _. ShowsLines AreWaitingIn };
 
-    fn write<K: Sink>(
-        &self,
-        alloc: Global,
-        order: &ClosedOrder<'_>,
-        sink: &mut K,
-    ) -> Result<bool, Fault> {
+    fn text(&self, alloc: Global, order: &ClosedOrder<'_>) -> Result<(bool, Vec<u8>), AllocError> {
         let rounds = order.rounds();
-        write_waiting(alloc, sink, order.intake, rounds)
+        let text = text_of_waiting(alloc, order.intake, rounds)?;
+        Ok((has_lines(&text), text.into_bytes()))
     }
 }

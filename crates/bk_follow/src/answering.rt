@@ -13,7 +13,7 @@ use crate::fault::Fault;
 use crate::follower::Follower;
 use crate::settings::{Settings, alone};
 use bk_answer::{Answer, OrderAnswer};
-use bk_frames::{PIECE, Sink, Source};
+use bk_frames::{PIECE, Sink, Source, push_all};
 use bk_order::HashKey;
 use bk_pool::Gate;
 use std::alloc::Global;
@@ -157,7 +157,9 @@ fn write_ordered<K: Sink, A: OrderAnswer>(
     let Some(order) = follower.closed_order() else {
         unreachable!()
     };
-    asked.write(follower.alloc, &order, sink)
+    let (end, text) = asked.text(follower.alloc, &order)?;
+    push_all(sink, &text)?;
+    Ok(end)
 }
 
 // Settles the order of the feed that ends here, and writes its answer.

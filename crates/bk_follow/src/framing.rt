@@ -17,7 +17,7 @@ use crate::fault::Fault;
 use crate::follower::Follower;
 use crate::settings::alone;
 use bk_answer::FrameAnswer;
-use bk_frames::{PIECE, Sink, Source};
+use bk_frames::{PIECE, Sink, Source, push_all};
 use bk_order::{HashKey, Intake};
 use std::alloc::Global;
 use std::thread::Threads;
@@ -61,7 +61,8 @@ fn take_and_answer<K: Sink, A: FrameAnswer>(
     ensures unstopped { IfErr result (λ f. stops f ≡ false) }
 {
     let intake = follower.taken()?;
-    let end = asked.write(follower.alloc, intake, sink)?;
+    let (end, text) = asked.text(follower.alloc, intake)?;
+    push_all(sink, &text)?;
     Ok(end)
 }
 

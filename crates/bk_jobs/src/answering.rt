@@ -16,7 +16,7 @@ use crate::picking::pick;
 use crate::queries::reply;
 use crate::scheduling::schedule;
 use crate::texts::{check, make_feed};
-use bk_answer::Report;
+use bk_answer::{AtOnce, Report};
 use bk_cli::{Job, JobFault};
 use bk_frames::{Sink, Source};
 use bk_pool::Gate;
@@ -53,9 +53,10 @@ where
             check_claim(rt, terms, gate, *workers, first, second, out)
         }
         Job::Frames { .. } => list(rt, first, out),
-        Job::Summary { workers, .. } => by_ledger(
-            rt, terms, gate, *workers, first, out, &Summarize,
-        ),
+        Job::Summary { workers, .. } => {
+            let summary = AtOnce { answer: &Summarize };
+            by_ledger(rt, terms, gate, *workers, first, out, &summary)
+        }
         Job::Dag { window, .. } => draw_rounds(rt, terms, *window, first, out),
         Job::Apply { .. } => apply_all(rt, first, out),
         Job::Schedule { workers, .. } => schedule(rt, *workers, first, second, out),

@@ -10,7 +10,7 @@ ghost use Rattle.bk_jobs.specs.Views.{executes_to_show, view_text};
 ghost use Rattle.bk_tables.specs.Tables.{IsBatchTable};
 
 use crate::job_end::{JobEnd, Terms};
-use bk_answer::{Answer, FrameAnswer, Judged, OrderAnswer};
+use bk_answer::{Answer, AtOnce, FrameAnswer, Judged, OrderAnswer};
 use bk_apply::apply;
 use bk_base::Workers;
 use bk_chain::Link;
@@ -108,7 +108,10 @@ where
             by_ledger(rt, terms, gate, workers, source, out, &all)
         }
         View::Batches => show_batches(rt, terms, source, out),
-        View::Link => by_ledger(rt, terms, gate, workers, source, out, &Link),
+        View::Link => {
+            let link = AtOnce { answer: &Link };
+            by_ledger(rt, terms, gate, workers, source, out, &link)
+        }
     }
 }
 

@@ -1,19 +1,16 @@
 //! The picture of a feed.
 
-ghost use Rattle.std.specs.Prelude.{◌≤◌, OnOk, IfOk, IfErr, string_bytes};
-ghost use Rattle.bk_frames.specs.Device.{CanBeUsed};
+ghost use Rattle.std.specs.Prelude.{◌≤◌, IfOk, string_bytes};
 ghost use Rattle.bk_commit.specs.Ordering.{IsCommitted};
 ghost use Rattle.bk_picture.specs.Drawing.{drawing_text};
 ghost use Rattle.bk_picture.specs.Picture.{HoldSame};
-ghost use Rattle.bk_picture.specs.private.Shows.{ShowsPicture, TextFails, WritesSome};
+ghost use Rattle.bk_picture.specs.private.Shows.{ShowsPicture};
 
 use crate::links::Links;
 use crate::picture::picture_of;
 use crate::svg::svg_of;
 use bk_answer::{ClosedOrder, OrderAnswer};
-use bk_frames::{Sink, push_all};
 use bk_order::Intake;
-use bk_results::Fault;
 use bk_rounds::Rounds;
 use std::alloc::{AllocError, Global};
 
@@ -38,31 +35,6 @@ fn text_of(
     Ok(text)
 }
 
-// Writes it.
-fn write_picture<K: Sink>(
-    alloc: Global,
-    sink: &mut K,
-    intake: &Intake,
-    rounds: &Rounds,
-    from: u32,
-    count: u32,
-    links: Option<Links>,
-) -> Result<(), Fault>
-    requires sound { CanBeUsed (K.state sink.old) }
-    requires committed { IsCommitted rounds.now.sizes rounds.now.held intake.now.ordered.anchors }
-    requires same { HoldSame intake.now.kept.certs rounds.now.held }
-    requires first { (1 ≤ from) × (from ≤ 1000000) }
-    requires few { count ≤ 1000 }
-    ensures out { OnOk result (WritesSome (ShowsPicture rounds.now intake.now from count links)
-        (K.state sink.old) (K.state sink.new)) }
-    ensures fault { IfErr result (TextFails (ShowsPicture rounds.now intake.now from count links)
-        (K.state sink.old) (K.state sink.new)) }
-{
-    let text = text_of(alloc, intake, rounds, from, count, links)?;
-    push_all(sink, text.as_bytes())?;
-    Ok(())
-}
-
 /// The picture of `count` rounds, 1 to 1,000, from the round `from` on, 1 to 1,000,000, up to the last round of the feed,
 /// as what a feed answers: SVG 1.1.
 #[derive(Clone, Copy)]
@@ -81,14 +53,10 @@ impl OrderAnswer for Draw {
 
     ghost text = { λ d. drawing_text d.from d.count d.links };
 
-    fn write<K: Sink>(
-        &self,
-        alloc: Global,
-        order: &ClosedOrder<'_>,
-        sink: &mut K,
-    ) -> Result<(), Fault> {
+    fn text(&self, alloc: Global, order: &ClosedOrder<'_>) -> Result<((), Vec<u8>), AllocError> {
         let rounds = order.rounds();
         let Draw { from, count, links } = *self;
-        write_picture(alloc, sink, order.intake, rounds, from, count, links)
+        let text = text_of(alloc, order.intake, rounds, from, count, links)?;
+        Ok(((), text.into_bytes()))
     }
 }

@@ -19,18 +19,12 @@ use Rattle.bk_rounds.specs.Rounds.{RoundsValue}
 use Rattle.bk_tx.specs.Batches.{count_in}
 use Rattle.bk_report.specs.RunLines.{Reading}
 use Rattle.bk_views.specs.Anchors.{AreRows}
-use Rattle.bk_answer.specs.Answers.{WritesAnswer, WritesNot}
 use Rattle.bk_answer.specs.Closed.{ClosedValue, OrderValue, IsClosedFor, IsOrderedFor}
 use Rattle.bk_answer.specs.RunReport.{Reads, committee_in, later_frames, reach_of}
 use Rattle.bk_base.proofs.Accounts.{genesis_few}
-use Rattle.bk_frames.specs.Device.{Device}
-use Rattle.bk_frames.specs.Writing.{Writes}
-use Rattle.bk_results.specs.declared.fault.Fault.{Fault}
-use Rattle.bk_results.specs.declared.fault.Fault.TheVariants as fault
 use Rattle.bk_results.specs.declared.status.Status.{Status}
 use Rattle.bk_summary.specs.Summarizing.{IsSummaryText}
 use Rattle.bk_summary.specs.Text.{summary_text}
-use Rattle.bk_summary.specs.private.Shows.{TextFails}
 use Rattle.bk_summary.specs.Summary.{IsSummaryOf, AreAnchorCounts, AreCertCounts, batch_counts, is_void, member_counts, unordered_digests}
 use Rattle.bk_summary.specs.declared.summary.AnchorCounts.{AnchorCounts}
 use Rattle.bk_summary.specs.declared.summary.BatchCounts.{BatchCounts}
@@ -148,17 +142,7 @@ few_opening feed o ordered =
     let few = genesis_few feed.frames in
     omega (arith, n, few)
 
-module _ (of : FeedValue → Type 0) (s : Summary) (is : (feed : FeedValue) → of feed → IsSummaryOf feed s) (old new : Device) where
-  -- what was written is its text
-  pub writes : (end : Status) → Writes (summary_text s) old new → end ≡ reach_of s.missing → WritesAnswer of IsSummaryText end old new
-  writes end w e = (λ feed h. (summary_text s, record { summary = s; is_summary = is feed h; text_is = refl; end_is = e }, w.1), w.0)
-
-  -- or the front of it
-  pub writes_not : (f : Fault) → TextFails s old new f → WritesNot of IsSummaryText f old new
-  writes_not (fault.Feed found) t = absurd t
-  writes_not (fault.Collision id) t = absurd t
-  writes_not (fault.Equivocation round author first second) t = absurd t
-  writes_not (fault.Unfinished place) t = absurd t
-  writes_not (fault.Write written) t =
-      (λ feed h. (reach_of s.missing, (summary_text s, record { summary = s; is_summary = is feed h; text_is = refl; end_is = refl }, t.0, t.1)), t.2)
-  writes_not fault.Memory t = t
+-- the text of the summary of each feed is its answer
+pub answers : (of : FeedValue → Type 0) (s : Summary) → ((feed : FeedValue) → of feed → IsSummaryOf feed s) → (end : Status) (text : List ℕ) → end ≡ reach_of s.missing → text ≡ summary_text s
+    → (feed : FeedValue) → of feed → IsSummaryText feed end text
+answers of s is end text e t feed h = record { summary = s; is_summary = is feed h; text_is = t; end_is = e }

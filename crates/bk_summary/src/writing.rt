@@ -1,23 +1,19 @@
-//! The summary of a feed, written.
+//! The summary of a feed, as text.
 
-ghost use Rattle.std.specs.Prelude.{◌≡◌, IfOk, IfErr, string_bytes};
+ghost use Rattle.std.specs.Prelude.{◌≡◌, IfOk, string_bytes};
 ghost use Rattle.bk_base.specs.Feed.{FeedValue};
-ghost use Rattle.bk_frames.specs.Device.{CanBeUsed};
-ghost use Rattle.bk_frames.specs.Writing.{Writes};
 ghost use Rattle.bk_answer.specs.Values.{closed_value};
 ghost use Rattle.bk_answer.specs.Answers.{IsMadeOf};
 ghost use Rattle.bk_answer.specs.RunReport.{reach_of};
 ghost use Rattle.bk_summary.specs.Summarizing.{IsSummaryText};
 ghost use Rattle.bk_summary.specs.Summary.{IsSummaryOf};
 ghost use Rattle.bk_summary.specs.Text.{summary_text};
-ghost use Rattle.bk_summary.specs.private.Shows.{TextFails};
 
 use crate::summary::Summary;
 use crate::summing::summary_of;
 use crate::text::push_summary;
-use bk_answer::{Answer, Closed};
-use bk_frames::{Sink, push_all};
-use bk_results::{Fault, Status};
+use bk_answer::{Closed, TextAnswer};
+use bk_results::Status;
 use std::alloc::{AllocError, Global};
 use std::thread::Threads;
 
@@ -30,19 +26,13 @@ fn text_of(alloc: Global, summary: &Summary) -> Result<String, AllocError>
     Ok(text)
 }
 
-// Writes it. Returns whether a batch is missing.
-fn write_summary<K: Sink>(alloc: Global, sink: &mut K, summary: &Summary) -> Result<Status, Fault>
-    requires sound { CanBeUsed (K.state sink.old) }
-    ensures out { IfOk result (λ _. Writes (summary_text summary.now)
-        (K.state sink.old) (K.state sink.new)) }
-    ensures end { IfOk result (λ end. end ≡ reach_of summary.now.missing) }
-    ensures fault { IfErr result (TextFails summary.now (K.state sink.old) (K.state sink.new)) }
+// Whether a batch is missing.
+fn end_of(summary: &Summary) -> Status
+    ensures { result ≡ reach_of summary.now.missing }
 {
-    let text = text_of(alloc, summary)?;
-    push_all(sink, text.as_bytes())?;
     match summary.missing {
-        Some(_) => Ok(Status::Missing),
-        None => Ok(Status::Whole),
+        Some(_) => Status::Missing,
+        None => Status::Whole,
     }
 }
 
@@ -73,22 +63,21 @@ fn summary_closed<R: Threads + Sync>(
 #[derive(Clone, Copy)]
 pub struct Summarize;
 
-impl Answer for Summarize {
+impl TextAnswer for Summarize {
     type End = Status;
 
     ghost can_ask = { λ _. Unit {0} };
 
     ghost text = { λ _. IsSummaryText };
 
-    fn write<R: Threads + Sync, K: Sink>(
+    fn text<R: Threads + Sync>(
         &self,
         rt: &R,
         alloc: Global,
         closed: &Closed<'_>,
-        sink: &mut K,
-    ) -> Result<Status, Fault> {
+    ) -> Result<(Status, Vec<u8>), AllocError> {
         let summary = summary_closed(rt, alloc, closed)?;
-        let status = write_summary(alloc, sink, &summary)?;
-        Ok(status)
+        let text = text_of(alloc, &summary)?;
+        Ok((end_of(&summary), text.into_bytes()))
     }
 }

@@ -8,7 +8,6 @@ pub mod Done
 pub mod TableTexts
 pub mod Walks
 pub mod OrderTaken
-pub mod PageOut
 pub mod Fronts
 pub mod BatchWalks
 pub mod PaymentTables
@@ -25,6 +24,7 @@ pub mod ReadBack
 pub mod PartRows
 pub mod WholeStatements
 pub mod PartSums
+pub mod PlaceSums
 pub mod PartAmounts
 pub mod PostingTexts
 pub mod PostingWalks
@@ -33,3 +33,6 @@ pub mod PostingTables
 pub mod PostingsGrow
 pub mod CountedOnce
 pub mod RowsCounted
+pub mod PaymentsPut
+pub mod PostingsPut
+pub mod WholeTables

@@ -1,5 +1,5 @@
 -- The order of what was taken of a feed, as its table of rounds has it.
-use Rattle.std.proofs.Common.{◌≡◌, ℕ, ◌<◌, ◌^◌, Bool, true, false, cond, List, [], ◌∷◌, ◌++◌, length, map, Option, Some, None, refl, sym, ap, subst, ◌∙◌, arith}
+use Rattle.std.proofs.Common.{◌≡◌, ℕ, ◌<◌, ◌^◌, Bool, true, false, cond, List, [], ◌∷◌, ◌++◌, map, Option, Some, None, refl, sym, ap, subst, ◌∙◌}
 use Rattle.std.specs.Prelude.{option_map, reverse}
 use Rattle.std.specs.List.{AllZip, Contains, find}
 use Rattle.std.specs.Str.{bytes_eq}
@@ -22,20 +22,13 @@ use Rattle.bk_flatten.proofs.Orders.{order_back_more, order_present}
 use Rattle.bk_order.specs.Frames.{AreBatches}
 use Rattle.bk_order.specs.Orders.{AreRoundsOf}
 use Rattle.bk_rounds.specs.Rounds.{RoundsValue}
-use Rattle.bk_frames.specs.Device.{Device}
-use Rattle.bk_frames.specs.Writing.{Writes}
-use Rattle.bk_results.specs.declared.fault.Fault.{Fault}
-use Rattle.bk_results.specs.declared.fault.Fault.TheVariants as fault
 use Rattle.bk_results.specs.declared.status.Status.{Status}
-use Rattle.bk_answer.specs.Answers.{IsOrderMadeOf, WritesAnswer, WritesNot}
+use Rattle.bk_answer.specs.Answers.{IsOrderMadeOf}
 use Rattle.bk_answer.specs.Closed.{IsOrderedFor, OrderValue}
 use Rattle.bk_answer.specs.RunReport.{committee_in, later_frames, reach_of}
-use Rattle.bk_answer.proofs.Counting.{few_ordered_batches}
-use Rattle.bk_answer.proofs.Reports.{IsOrderMade, later_part}
 use Rattle.bk_tables.specs.Batches.{IsBatchRow, batches_text}
 use Rattle.bk_tables.specs.Tables.{IsBatchTable}
 use Rattle.bk_tables.specs.private.Rows.{AreRowsOf, IsTakenOf}
-use Rattle.bk_tables.specs.private.Shows.{TextFails}
 use Rattle.bk_tables.specs.declared.batches.BatchRow.{BatchRow}
 
 -- ---- digests of payloads
@@ -97,43 +90,16 @@ taken_is feed o rounds ordered here clear =
 
 -- ---- the table
 
-zip_length : {A B : Type 0} (R : A → B → Type 0) (xs : List A) (ys : List B) → AllZip R xs ys → length xs ≡ length ys
-zip_length R [] [] h = refl
-zip_length R [] (y ∷ ys) h = absurd h
-zip_length R (x ∷ xs) [] h = absurd h
-zip_length R (x ∷ xs) (y ∷ ys) h = let rest = zip_length R xs ys h.1 in omega (arith, rest)
-
-pub few_rows : (o : OrderValue) (rounds : RoundsValue) (rows : List BatchRow) → IsOrderMade o → AreRowsOf rounds o.taken.ordered rows → length rows < 2 ^ 32
-few_rows o rounds rows (feed, (good, order)) are =
-    let few = few_ordered_batches feed.version (committee_in feed) feed.frames (later_frames feed) o.taken.ordered good.good (later_part feed.frames) order.ordered in
-    let same = zip_length (IsBatchRow rounds.sizes rounds.held o.taken.ordered) o.taken.ordered.payloads.list rows are in
-    omega (arith, few, same)
-
-module _ (o : OrderValue) (rounds : RoundsValue) (rounds_here : (feed : FeedValue) → IsOrderMadeOf o feed → AreRoundsOf (committee_in feed) (later_frames feed) rounds) (rows : List BatchRow)
-    (are : AreRowsOf rounds o.taken.ordered rows) (old new : Device) where
-  is_table : (feed : FeedValue) → IsOrderMadeOf o feed → (end : Status) → end ≡ reach_of o.taken.ordered.payloads.missing → IsBatchTable feed end (batches_text rows)
-  is_table feed made end e = record {
-    clear = made.1.clear;
-    ordered = o.taken.ordered;
-    is_order = made.1.ordered;
-    certs = rounds.held;
-    are_certs = (rounds_here feed made).certs;
-    rows = rows;
-    are_rows = subst (λ (z : Sizes). AllZip (IsBatchRow z rounds.held o.taken.ordered) o.taken.ordered.payloads.list rows) (rounds_here feed made).sizes are;
-    text_is = refl;
-    end_is = e;
-  }
-
-  pub table_out : (end : Status) → end ≡ reach_of o.taken.ordered.payloads.missing → Writes (batches_text rows) old new → WritesAnswer (IsOrderMadeOf o) IsBatchTable end old new
-  table_out end e w = (λ feed made. (batches_text rows, is_table feed made end e, w.1), w.0)
-
-  pub table_not : (f : Fault) → TextFails (batches_text rows) old new f → WritesNot (IsOrderMadeOf o) IsBatchTable f old new
-  table_not (fault.Feed found) t = absurd t
-  table_not (fault.Collision id) t = absurd t
-  table_not (fault.Equivocation round author first second) t = absurd t
-  table_not (fault.Unfinished place) t = absurd t
-  table_not (fault.Write written) t = (
-    λ feed made. (reach_of o.taken.ordered.payloads.missing, (batches_text rows, is_table feed made (reach_of o.taken.ordered.payloads.missing) refl, t.0, t.1)),
-    t.2,
-  )
-  table_not fault.Memory t = t
+pub is_table : (o : OrderValue) (rounds : RoundsValue) → ((feed : FeedValue) → IsOrderMadeOf o feed → AreRoundsOf (committee_in feed) (later_frames feed) rounds) → (rows : List BatchRow) → AreRowsOf rounds o.taken.ordered rows
+    → (end : Status) (text : List ℕ) → end ≡ reach_of o.taken.ordered.payloads.missing → text ≡ batches_text rows → (feed : FeedValue) → IsOrderMadeOf o feed → IsBatchTable feed end text
+is_table o rounds rounds_here rows are end text e t feed made = record {
+  clear = made.1.clear;
+  ordered = o.taken.ordered;
+  is_order = made.1.ordered;
+  certs = rounds.held;
+  are_certs = (rounds_here feed made).certs;
+  rows = rows;
+  are_rows = subst (λ (z : Sizes). AllZip (IsBatchRow z rounds.held o.taken.ordered) o.taken.ordered.payloads.list rows) (rounds_here feed made).sizes are;
+  text_is = t;
+  end_is = e;
+}

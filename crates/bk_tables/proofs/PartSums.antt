@@ -23,8 +23,7 @@ use Rattle.bk_rules.specs.declared.receipt.Status.TheVariants as status
 use Rattle.bk_views.specs.Laws.{adds, takes}
 use Rattle.bk_views.specs.Statement.{Course, credited_by, paid_to}
 use Rattle.bk_views.specs.declared.entry.Role.TheVariants as role
-use Rattle.bk_tables.specs.Laws.{OutIsAllIn}
-use Rattle.bk_tables.specs.Postings.{Part, guard_parts, part_with, parts_of, posting_of}
+use Rattle.bk_tables.specs.Postings.{Part, guard_parts, part_with, parts_of, posting_of, postings_at}
 use Rattle.bk_tables.specs.declared.posting.Posting.{Posting}
 use Rattle.bk_tables.proofs.PartRows.{above, apart_of, not_same, receivers_up, rest_up}
 
@@ -100,10 +99,10 @@ all_credited status.Funds accounts t h = no_credit (receivers_of t.body)
 
 -- ---- the rows
 
-abbrev in_row : Posting → ℕ
+abbrev pub in_row : Posting → ℕ
 in_row q = adds q.entry.role q.entry.amount
 
-abbrev out_row : Posting → ℕ
+abbrev pub out_row : Posting → ℕ
 out_row q = takes q.entry.role q.entry.amount
 
 module _ (c : Course) (place : ℕ) (t : Transaction) where
@@ -145,8 +144,8 @@ module _ (c : Course) (place : ℕ) (t : Transaction) where
 moved_here : (v : Version) (rows : List Row) (t : Transaction) (o : Option Transaction) → o ≡ Some t → (outcome_of v o rows).receipt.moved ≡ moved_by (outcome_of v o rows).receipt.status (account_at rows) t
 moved_here v rows t o e = subst (λ (x : Option Transaction). (outcome_of v x rows).receipt.moved ≡ moved_by (outcome_of v x rows).receipt.status (account_at rows) t) (sym e) refl
 
-pub out_is_in : OutIsAllIn
-out_is_in c place t here h =
+pub one_place : (c : Course) (place : ℕ) (t : Transaction) → slice_index_or c.txs place None ≡ Some t → IsTransaction t → sum_by in_row (postings_at c place (Some t)) ≡ sum_by out_row (postings_at c place (Some t))
+one_place c place t here h =
     let ins = in_rows c place t (receivers_of t.body) in
     let guards = guard_rows c place t (guard_of t.body) in
     let all = all_credited (outcome_at c.version c.txs place c.opening).receipt.status (account_at (rows_before c.version c.txs place c.opening)) t h in

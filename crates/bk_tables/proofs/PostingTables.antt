@@ -1,14 +1,8 @@
 -- The table of postings that was written is that of the feed.
 use Rattle.std.proofs.Common.{◌≡◌, ℕ, ◌+◌, ◌<◌, ◌^◌, List, [], ◌∷◌, ◌++◌, length, get_or, map, take, Option, Some, None, refl, sym, ap, subst, ◌∙◌, append_assoc, length-append, arith}
-use Rattle.bk_base.specs.Feed.{FeedValue}
 use Rattle.bk_base.specs.Genesis.{AreAccounts}
 use Rattle.bk_base.specs.declared.genesis.Row.{Row}
 use Rattle.bk_base.proofs.Accounts.{genesis_accounts}
-use Rattle.bk_frames.specs.Device.{Device}
-use Rattle.bk_frames.specs.Writing.{Writes}
-use Rattle.bk_results.specs.declared.fault.Fault.{Fault}
-use Rattle.bk_results.specs.declared.fault.Fault.TheVariants as fault
-use Rattle.bk_results.specs.declared.status.Status.{Status}
 use Rattle.bk_rules.specs.Fold.{HasRoom, outcome_at, rows_before, state_after}
 use Rattle.bk_rules.specs.Rows.{IsLedger, Outcome, account_at, outcome_of}
 use Rattle.bk_rules.proofs.Folding.{ledger_of_accounts, rows_of_place, state_append}
@@ -16,18 +10,12 @@ use Rattle.bk_rules.proofs.Room.{room_left}
 use Rattle.bk_tx.specs.Batches.{transactions_of}
 use Rattle.bk_tx.specs.Transaction.{Transaction}
 use Rattle.bk_views.specs.Statement.{Course, amount_by, credited_by}
-use Rattle.bk_answer.specs.Answers.{IsMadeOf, WritesAnswer, WritesNot}
 use Rattle.bk_answer.specs.Closed.{ClosedValue}
-use Rattle.bk_answer.specs.RunReport.{reach_of}
 use Rattle.bk_answer.proofs.Reports.{IsMade, few_receipts}
-use Rattle.bk_tables.specs.Csv.{row_text}
-use Rattle.bk_tables.specs.Postings.{Part, parts_of, postings, postings_at, postings_from, postings_header, postings_text}
+use Rattle.bk_tables.specs.Postings.{Part, parts_of, postings, postings_at, postings_from}
 use Rattle.bk_tables.specs.declared.posting.Posting.{Posting}
-use Rattle.bk_tables.specs.Tables.{IsPostingTable, course_of}
-use Rattle.bk_tables.specs.private.Runs.{outcome_in}
-use Rattle.bk_tables.specs.private.Shows.{TextFails}
-use Rattle.bk_tables.specs.private.Walking.{rows_of, walk_rows, walk_text}
-use Rattle.bk_tables.proofs.PaymentTables.{outcome_is, receipts_each}
+use Rattle.bk_tables.specs.private.Walking.{rows_of, walk_rows}
+use Rattle.bk_tables.proofs.PaymentTables.{receipts_each}
 
 -- ---- the walk over all places gives their rows
 
@@ -99,36 +87,3 @@ pub opening_room : (c : ClosedValue) → IsMade c → HasRoom c.ledger.state.ver
 opening_room c made =
     let few = few_transactions c made in
     room_left c.ledger.state.version [] (length (transactions_of c.order.taken.ordered.payloads.list)) c.order.opening (opening_accounts c made) (omega (arith, few))
-
-module _ (c : ClosedValue) (ids : Option (List ℕ)) (old new : Device) where
-  abbrev text : List ℕ
-  text = walk_text ids c.ledger.state.version (transactions_of c.order.taken.ordered.payloads.list) c.order.opening
-
-  is_table : (feed : FeedValue) → IsMadeOf c feed → (end : Status) → end ≡ reach_of c.order.taken.ordered.payloads.missing → IsPostingTable ids feed end text
-  is_table feed made end e =
-      let ev = made.1.executed.version in
-      let eo = made.1.order.opening in
-      record {
-        outcome = outcome_in c.order.taken c.ledger;
-        is_outcome = outcome_is feed c made.1;
-        text_is = (λ i. row_text postings_header ++ postings_text ids (walk_rows (ev i) 0 (transactions_of c.order.taken.ordered.payloads.list) (eo i)))
-            ∙ ap (λ (rows : List Posting). row_text postings_header ++ postings_text ids rows) (walk_all (course_of feed (outcome_in c.order.taken c.ledger)));
-        end_is = e;
-      }
-
-  pub postings_out : (end : Status) → end ≡ reach_of c.order.taken.ordered.payloads.missing → Writes text old new → WritesAnswer (IsMadeOf c) (IsPostingTable ids) end old new
-  postings_out end e w = (λ feed made. (text, is_table feed made end e, w.1), w.0)
-
-  pub postings_not : (f : Fault) → TextFails text old new f → WritesNot (IsMadeOf c) (IsPostingTable ids) f old new
-  postings_not (fault.Feed found) t = absurd t
-  postings_not (fault.Collision id) t = absurd t
-  postings_not (fault.Equivocation round author first second) t = absurd t
-  postings_not (fault.Unfinished place) t = absurd t
-  postings_not (fault.Write written) t = (
-    λ feed made. (
-      reach_of c.order.taken.ordered.payloads.missing,
-      (text, is_table feed made (reach_of c.order.taken.ordered.payloads.missing) refl, t.0, t.1),
-    ),
-    t.2,
-  )
-  postings_not fault.Memory t = t

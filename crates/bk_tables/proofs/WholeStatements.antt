@@ -25,16 +25,19 @@ module _ (c : Course) (id : ℕ) where
       ∙ map-append (λ (q : Posting). q.entry) (filter (λ (q : Posting). eqb q.account id) xs) (filter (λ (q : Posting). eqb q.account id) ys)
 
   -- these transactions are those of the course from a place on
-  abbrev AreFrom : ℕ → List (Option Transaction) → Type 0
+  abbrev pub AreFrom : ℕ → List (Option Transaction) → Type 0
   AreFrom place txs = (k : ℕ) → k < length txs → get_or txs k None ≡ get_or c.txs (place + k) None
 
-  from_next : (place : ℕ) (t : Option Transaction) (more : List (Option Transaction)) → AreFrom place (t ∷ more) → AreFrom (place + 1) more
+  pub from_next : (place : ℕ) (t : Option Transaction) (more : List (Option Transaction)) → AreFrom place (t ∷ more) → AreFrom (place + 1) more
   from_next place t more from k low =
       let n : place + suc k ≡ place + 1 + k = omega arith in
       from (suc k) (omega (arith, low)) ∙ ap (λ (i : ℕ). get_or c.txs i None) n
 
-  from_here : (place : ℕ) (t : Option Transaction) (more : List (Option Transaction)) → AreFrom place (t ∷ more) → t ≡ get_or c.txs place None
+  pub from_here : (place : ℕ) (t : Option Transaction) (more : List (Option Transaction)) → AreFrom place (t ∷ more) → t ≡ get_or c.txs place None
   from_here place t more from = let n : place + 0 ≡ place = omega arith in from 0 (omega arith) ∙ ap (λ (i : ℕ). get_or c.txs i None) n
+
+  pub all_from : AreFrom 0 c.txs
+  all_from k low = let n : k ≡ 0 + k = omega arith in ap (λ (i : ℕ). get_or c.txs i None) n
 
   entries_next : (place : ℕ) (t : Option Transaction) → t ≡ get_or c.txs place None → entries_below c id place ++ entries_of c id place t ≡ entries_below c id (place + 1)
   entries_next place t e =
@@ -54,5 +57,5 @@ module _ (c : Course) (id : ℕ) where
 
 pub are_entries : PostingsAreEntries
 are_entries c id sound =
-    own_from c id 0 c.txs sound (λ k low. let n : k ≡ 0 + k = omega arith in ap (λ (i : ℕ). get_or c.txs i None) n)
+    own_from c id 0 c.txs sound (all_from c id)
     ∙ ap (λ (k : ℕ). entries_below c id k) (let n : 0 + length c.txs ≡ length c.txs = omega arith in n)

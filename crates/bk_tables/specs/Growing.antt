@@ -39,9 +39,6 @@ pub record Walked : Type 0 where
   pub shown : Shown
   pub state : Option Ledger
 
-abbrev pub none_walked : List ℕ → Walked
-none_walked header = record { shown = none_shown header; state = None }
-
 -- these are the accounts after these batches, from opening accounts; before the first batch there need be none
 abbrev pub AreAfter : Version → List Row → List (List ℕ) → Option Ledger → Type 0
 AreAfter version opening payloads None = payloads ≡ []

@@ -1,5 +1,5 @@
 -- What the rows of the tables say together.
-use Rattle.std.specs.Prelude.{◌≡◌, ◌==◌, ◌<◌, ◌↔◌, ℕ, Contains, IfSome, List, length, Option, Some, None, filter, map, slice_get, slice_index_or}
+use Rattle.std.specs.Prelude.{◌≡◌, ◌==◌, ◌<◌, ◌↔◌, ℕ, Contains, IfSome, List, length, Option, Some, None, filter, map, slice_get}
 use Rattle.std.specs.List.{AllByRecursion, AllZip, sum_by}
 use Rattle.bk_base.specs.Numbers.{IsBytes}
 use Rattle.bk_base.specs.declared.genesis.Row.{Row}
@@ -20,7 +20,7 @@ use Rattle.bk_rules.specs.declared.receipt.Status.{Status}
 use Rattle.bk_rules.specs.Fold.{receipts_of}
 use Rattle.bk_tables.specs.Batches.{IsBatchRow}
 use Rattle.bk_tables.specs.Payments.{is_among, names_one, payments_text, rows_from}
-use Rattle.bk_tables.specs.Postings.{postings, postings_at, postings_text}
+use Rattle.bk_tables.specs.Postings.{postings, postings_text}
 use Rattle.bk_tables.specs.declared.posting.Posting.{Posting}
 use Rattle.bk_tables.specs.declared.batches.BatchRow.{BatchRow}
 use Rattle.bk_tables.specs.declared.payment.PaymentRow.{PaymentRow}
@@ -101,8 +101,15 @@ abbrev pub PostingsAreEntries : Type 0
 PostingsAreEntries = (c : Course) (id : ℕ) → AreTransactions c.txs
     → map (λ (q : Posting). q.entry) (filter (λ (q : Posting). q.account == id) (postings c)) ≡ entries c id
 
+-- what those of these rows that are of this place add, and what they take
+abbrev pub added_at : List Posting → ℕ → ℕ
+added_at rows place =
+    sum_by (λ (q : Posting). adds q.entry.role q.entry.amount) (filter (λ (q : Posting). q.entry.place == place) rows)
+
+abbrev pub taken_at : List Posting → ℕ → ℕ
+taken_at rows place =
+    sum_by (λ (q : Posting). takes q.entry.role q.entry.amount) (filter (λ (q : Posting). q.entry.place == place) rows)
+
 -- in each place what the sender's row takes is what the receivers' rows add
 abbrev pub OutIsAllIn : Type 0
-OutIsAllIn = (c : Course) (place : ℕ) (t : Transaction) → slice_index_or c.txs place None ≡ Some t → IsTransaction t
-    → sum_by (λ (q : Posting). adds q.entry.role q.entry.amount) (postings_at c place (Some t))
-    ≡ sum_by (λ (q : Posting). takes q.entry.role q.entry.amount) (postings_at c place (Some t))
+OutIsAllIn = (c : Course) (place : ℕ) → AreTransactions c.txs → added_at (postings c) place ≡ taken_at (postings c) place

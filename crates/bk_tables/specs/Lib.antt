@@ -3,6 +3,7 @@ pub mod Batches
 pub mod Payments
 pub mod Tables
 pub mod Growing
+pub mod Kinds
 pub mod private
 pub mod Listing
 pub mod Postings

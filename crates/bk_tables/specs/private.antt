@@ -3,7 +3,6 @@ pub mod Asking
 pub mod Placing
 pub mod Naming
 pub mod Rows
-pub mod Runs
-pub mod Shows
 pub mod Sheets
 pub mod Walking
+pub mod KindLaws

@@ -1,27 +1,19 @@
 //! The batches of an order, as what a feed answers.
 
-ghost use Rattle.std.specs.Prelude.{◌≡◌, ◌<◌, ◌≤◌, ◌^◌, false, length, OnOk, IfOk, IfErr};
+ghost use Rattle.std.specs.Prelude.{◌≡◌, ◌≤◌, false, length, IfOk};
 ghost use Rattle.bk_commit.specs.Ordering.{IsCommitted};
-ghost use Rattle.bk_frames.specs.Device.{CanBeUsed};
-ghost use Rattle.bk_frames.specs.Writing.{Writes};
 ghost use Rattle.bk_tx.specs.Batches.{count_in};
-ghost use Rattle.bk_answer.specs.RunReport.{reach_of};
-ghost use Rattle.bk_tables.specs.Batches.{batches_text};
 ghost use Rattle.bk_tables.specs.Tables.{IsBatchTable};
-ghost use Rattle.bk_tables.specs.private.Shows.{TextFails};
 ghost use Rattle.bk_tables.specs.private.Rows.{AreRowsOf, IsTakenOf, row_with, rows_with};
 
-use crate::line::Line;
 use crate::naming::{Named, firsts_of};
 use crate::placing::placed_by;
-use crate::text::put_batches;
+use crate::text::batches_text;
 use bk_answer::{ClosedOrder, OrderAnswer};
 use bk_cert::CertRef;
 use bk_digest::Digest32;
-use bk_frames::Sink;
 use bk_order::Intake;
-use bk_report::Page;
-use bk_results::{Fault, Status};
+use bk_results::Status;
 use bk_rounds::Rounds;
 use bk_tx::read_batch;
 use std::alloc::{AllocError, Global};
@@ -89,31 +81,6 @@ fn all_rows(alloc: Global, rounds: &Rounds, intake: &Intake) -> Result<Vec<Batch
     rows_of(alloc, intake, named.as_slice())
 }
 
-// Writes the table of rows.
-fn write_rows<K: Sink>(alloc: Global, sink: &mut K, rows: &[BatchRow]) -> Result<(), Fault>
-    requires sound { CanBeUsed (K.state sink.old) }
-    requires few { length rows.now < 2 ^ 32 }
-    ensures out { OnOk result
-        (Writes (batches_text rows.now) (K.state sink.old) (K.state sink.new)) }
-    ensures fault { IfErr result
-        (TextFails (batches_text rows.now) (K.state sink.old) (K.state sink.new)) }
-{
-    let mut page = Page::new(alloc)?;
-    let mut line = Line::new(alloc)?;
-    put_batches(sink, &mut page, &mut line, rows)?;
-    Ok(())
-}
-
-// How far an order goes.
-pub(crate) fn end_of(intake: &Intake) -> Status
-    ensures { result ≡ reach_of intake.now.ordered.payloads.missing }
-{
-    match intake.missing() {
-        Some(_) => Status::Missing,
-        None => Status::Whole,
-    }
-}
-
 /// The table of the batches of the order, as what a feed answers. It ends with whether a batch is missing.
 #[derive(Clone, Copy)]
 pub struct Batches;
@@ -125,16 +92,15 @@ impl OrderAnswer for Batches {
 
     ghost text = { λ _. IsBatchTable };
 
-    fn write<K: Sink>(
+    fn text(
         &self,
         alloc: Global,
         order: &ClosedOrder<'_>,
-        sink: &mut K,
-    ) -> Result<Status, Fault> {
+    ) -> Result<(Status, Vec<u8>), AllocError> {
         let rounds = order.rounds();
         rounds.sound();
         let rows = all_rows(alloc, rounds, order.intake)?;
-        write_rows(alloc, sink, &rows)?;
-        Ok(end_of(order.intake))
+        let text = batches_text(alloc, &rows)?;
+        Ok((order.reach(), text))
     }
 }

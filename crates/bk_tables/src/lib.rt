@@ -1,8 +1,9 @@
 //! The tables of a feed, as CSV: the batches of its order, the payments of its transactions, and what these do to each
 //! account.
 //!
-//! [`Batches`], [`Transactions`] and [`Postings`] are the answers of a feed that write them, a row at a time. All memory is
-//! taken before the first byte is out. [`read_accounts`] reads the list of accounts by which rows are picked.
+//! [`Batches`], [`Transactions`] and [`Postings`] are the answers of a feed. The rows of the last two, [`TableRows`], are
+//! written while an order grows, or all at once; all memory is taken before the first byte is out. [`read_accounts`] reads
+//! the list of accounts by which rows are picked.
 #![tactic(auto)]
 
 mod accounts;
@@ -18,6 +19,7 @@ mod posting;
 mod postings;
 mod rows;
 mod sheet;
+mod table;
 mod text;
 mod texts;
 mod transactions;
@@ -35,6 +37,7 @@ pub use listing::{MOST_LIST, read_accounts};
 pub use payment::{Asked, Kind, PaymentRow};
 pub use posting::Posting;
 pub use postings::{PostingRows, Postings};
+pub use table::TableRows;
 pub use transactions::{PaymentRows, Transactions};
 
 #[cfg(test)]

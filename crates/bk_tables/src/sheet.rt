@@ -115,10 +115,3 @@ pub(crate) fn sheet_after(alloc: Global, front: &[u8]) -> Result<Sheet, AllocErr
     let line = Line::new(alloc)?;
     Ok(Sheet { page, line })
 }
-
-/// An empty page. All room that rows ever need is taken here.
-pub(crate) fn new_sheet(alloc: Global) -> Result<Sheet, AllocError>
-    ensures { IfOk result (λ s. s.page ≡ blank) }
-{
-    sheet_after(alloc, &[])
-}

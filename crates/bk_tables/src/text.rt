@@ -1,17 +1,14 @@
 //! The rows of batches as text.
 
-ghost use Rattle.std.specs.Prelude.{◌≡◌, ◌+◌, ◌*◌, ◌^◌, ◌<◌, ◌≤◌, ◌∷◌, ◌++◌, [], length, OnOk};
+ghost use Rattle.std.specs.Prelude.{◌≡◌, ◌+◌, ◌≤◌, ◌∷◌, ◌++◌, [], length, IfOk, OnOk};
 ghost use Rattle.hex.specs.Hex.{encode_lower};
-ghost use Rattle.bk_frames.specs.Device.{CanBeUsed};
-ghost use Rattle.bk_report.specs.Pages.{Written, blank, size_of};
-ghost use Rattle.bk_tables.specs.Batches.{batch_fields, batches_fields, batches_header, batches_text, count_field};
+ghost use Rattle.bk_tables.specs.Batches.{batch_fields, batches_fields, batches_text, count_field};
 ghost use Rattle.bk_tables.specs.Csv.{row_text, table_text};
 
 use crate::batches::BatchRow;
 use crate::line::Line;
 use bk_digest::Digest32;
-use bk_frames::{Sink, WriteFault};
-use bk_report::Page;
+use std::alloc::{AllocError, Global};
 
 // The header, a row.
 const HEADER: &[u8] = b"batch,digest,round,author,anchor,transactions\n";
@@ -42,7 +39,7 @@ fn put_digest(line: &mut Line, digest: &Digest32)
 }
 
 // Makes the row of a batch.
-fn make_row(line: &mut Line, index: u32, row: &BatchRow)
+fn make_row(line: &mut Line, index: u64, row: &BatchRow)
     ensures text { line.new ≡ row_text (batch_fields index row.now) }
     ensures size { length line.new ≤ 170 }
 {
@@ -53,7 +50,7 @@ fn make_row(line: &mut Line, index: u32, row: &BatchRow)
         count,
     } = *row;
     line.clear();
-    line.put_number(u64::from(index), b',');
+    line.put_number(index, b',');
     put_digest(line, &digest);
     line.put_number(u64::from(cert.round), b',');
     line.put_number(u64::from(cert.author), b',');
@@ -61,42 +58,24 @@ fn make_row(line: &mut Line, index: u32, row: &BatchRow)
     put_count(line, count);
 }
 
-// Puts a row for each batch, numbered from 0.
-fn put_rows<K: Sink>(
-    sink: &mut K,
-    page: &mut Page,
-    line: &mut Line,
-    rows: &[BatchRow],
-) -> Result<(), WriteFault>
-    requires sound { CanBeUsed (K.state sink.old) }
-    requires few { length rows.now < 2 ^ 32 }
-    requires size { size_of page.old < 2 ^ 32 }
-    ensures written { Written result (K.state sink.old) (K.state sink.new) page.old page.new
-        (table_text (batches_fields 0 rows.now)) }
-    ensures size { OnOk result (size_of page.new < 2 ^ 41) }
+// Adds a row for each batch, numbered from 0.
+fn push_rows(text: &mut Vec<u8>, line: &mut Line, rows: &[BatchRow]) -> Result<(), AllocError>
+    ensures { OnOk result (text.new.items
+        ≡ text.old.items ++ table_text (batches_fields 0 rows.now)) }
 {
     for (index, row) in rows.iter().enumerate() {
-        make_row(line, index as u32, row);
-        page.put_text(sink, line.as_slice())?;
+        make_row(line, index as u64, row);
+        text.extend_from_slice(line.as_slice())?;
     }
     Ok(())
 }
 
-/// Writes the table of these batches to its end.
-pub(crate) fn put_batches<K: Sink>(
-    sink: &mut K,
-    page: &mut Page,
-    line: &mut Line,
-    rows: &[BatchRow],
-) -> Result<(), WriteFault>
-    requires sound { CanBeUsed (K.state sink.old) }
-    requires few { length rows.now < 2 ^ 32 }
-    requires blank { page.old ≡ blank }
-    ensures written { Written result (K.state sink.old) (K.state sink.new) page.old page.new
-        (batches_text rows.now) }
-    ensures empty { OnOk result (page.new.bytes ≡ []) }
+/// The table of these batches.
+pub(crate) fn batches_text(alloc: Global, rows: &[BatchRow]) -> Result<Vec<u8>, AllocError>
+    ensures { IfOk result (λ text. text.items ≡ batches_text rows.now) }
 {
-    page.put_text(sink, HEADER)?;
-    put_rows(sink, page, line, rows)?;
-    page.flush(sink)
+    let mut line = Line::new(alloc)?;
+    let mut text = HEADER.to_vec(alloc)?;
+    push_rows(&mut text, &mut line, rows)?;
+    Ok(text)
 }

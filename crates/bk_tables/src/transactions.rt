@@ -5,23 +5,21 @@ ghost use Rattle.bk_answer.specs.Answers.{IsMadeOf};
 ghost use Rattle.bk_answer.specs.Values.{closed_value};
 ghost use Rattle.bk_base.specs.Feed.{FeedValue};
 ghost use Rattle.bk_frames.specs.Device.{CanBeUsed};
-ghost use Rattle.bk_frames.specs.Writing.{Writes};
-ghost use Rattle.bk_report.specs.Pages.{Written, blank, size_of};
+ghost use Rattle.bk_report.specs.Pages.{Written, size_of};
 ghost use Rattle.bk_rules.specs.Fold.{receipts_of};
 ghost use Rattle.bk_tx.specs.Batches.{count_in, transactions_in, transactions_of};
 ghost use Rattle.bk_tx.specs.Reading.{text_at};
-ghost use Rattle.bk_tables.specs.Csv.{row_text};
-ghost use Rattle.bk_tables.specs.Growing.{ShowsAll, ShowsFirst, none_shown};
-ghost use Rattle.bk_tables.specs.Payments.{payments_header, payments_text, receipt_at, rows_from, rows_in};
-ghost use Rattle.bk_tables.specs.Tables.{IsPaymentTable, transactions_text};
-ghost use Rattle.bk_tables.specs.private.Runs.{outcome_in};
-ghost use Rattle.bk_tables.specs.private.Shows.{TextFails};
+ghost use Rattle.bk_tables.specs.Growing.{ShowsAll, ShowsFirst};
+ghost use Rattle.bk_tables.specs.Kinds.{payments};
+ghost use Rattle.bk_tables.specs.Payments.{payments_text, receipt_at, rows_from, rows_in};
+ghost use Rattle.bk_tables.specs.Tables.{IsPaymentTable};
+ghost use Rattle.bk_tables.specs.private.KindLaws.{no_payments, payments_short, payments_table};
 
 use crate::accounts::Accounts;
-use crate::batches::end_of;
 use crate::payment::At;
 use crate::rows::put_place;
-use crate::sheet::{Sheet, new_sheet, sheet_after};
+use crate::sheet::{Sheet, sheet_after};
+use crate::table::{TableRows, write_whole};
 use crate::texts::next_text;
 use bk_answer::{Answer, Closed};
 use bk_base::Fields;
@@ -125,59 +123,6 @@ fn put_batches<K: Sink>(
     Ok(())
 }
 
-// Puts the whole table.
-fn put_table<K: Sink>(
-    sink: &mut K,
-    sheet: &mut Sheet,
-    accounts: &Option<Accounts>,
-    intake: &Intake,
-    ledger: &Ledger,
-) -> Result<(), WriteFault>
-    requires sound { CanBeUsed (K.state sink.old) }
-    requires open { intake.now.failed ≡ false }
-    requires counts { ledger.now.counts ≡ map count_in intake.now.ordered.payloads.list }
-    requires receipts { length ledger.now.receipts
-        ≡ length (transactions_of intake.now.ordered.payloads.list) }
-    requires few { length ledger.now.receipts < 2 ^ 32 }
-    requires batches { length intake.now.ordered.payloads.list < 2 ^ 32 }
-    requires blank { sheet.old.page ≡ blank }
-    ensures written { Written result (K.state sink.old) (K.state sink.new)
-        sheet.old.page sheet.new.page
-        (transactions_text accounts.now (outcome_in intake.now ledger.now)) }
-    ensures empty { OnOk result (sheet.new.page.bytes ≡ []) }
-{
-    sheet.page.put_text(sink, HEADER)?;
-    put_batches(sink, sheet, accounts, intake, ledger, 0, 0)?;
-    sheet.page.flush(sink)
-}
-
-// Writes it.
-fn write_table<K: Sink>(
-    alloc: Global,
-    sink: &mut K,
-    accounts: &Option<Accounts>,
-    intake: &Intake,
-    ledger: &Ledger,
-) -> Result<(), Fault>
-    requires sound { CanBeUsed (K.state sink.old) }
-    requires open { intake.now.failed ≡ false }
-    requires counts { ledger.now.counts ≡ map count_in intake.now.ordered.payloads.list }
-    requires receipts { length ledger.now.receipts
-        ≡ length (transactions_of intake.now.ordered.payloads.list) }
-    requires few { length ledger.now.receipts < 2 ^ 32 }
-    requires batches { length intake.now.ordered.payloads.list < 2 ^ 32 }
-    ensures out { OnOk result
-        (Writes (transactions_text accounts.now (outcome_in intake.now ledger.now))
-        (K.state sink.old) (K.state sink.new)) }
-    ensures fault { IfErr result
-        (TextFails (transactions_text accounts.now (outcome_in intake.now ledger.now))
-        (K.state sink.old) (K.state sink.new)) }
-{
-    let mut sheet = new_sheet(alloc)?;
-    put_table(sink, &mut sheet, accounts, intake, ledger)?;
-    Ok(())
-}
-
 /// The table of payments of an order that grows: its header, and the rows of the batches that it has so far. Contracts see
 /// the page on which it is put, and how many batches and places it shows.
 #[derive(Drop)]
@@ -196,20 +141,9 @@ impl Model for PaymentRows {
 }
 
 impl PaymentRows {
-    /// Before the first row. All room that rows ever need is taken here.
-    pub fn new(alloc: Global) -> Result<PaymentRows, AllocError>
-        ensures { IfOk result (λ r. r ≡ none_shown (row_text payments_header)) }
-    {
-        Ok(PaymentRows {
-            sheet: sheet_after(alloc, HEADER)?,
-            batch: 0,
-            place: 0,
-        })
-    }
-
-    /// Writes the rows of the batches that are not shown yet: those that name one of these accounts, or all of them. The
-    /// header comes before the first row that is written. After an error it is not to be used again.
-    pub fn write_more<K: Sink>(
+    // Writes the rows of the batches that are not shown yet: those that name one of these accounts, or all of them. The
+    // header comes before the first row that is written. After an error it is not to be used again.
+    fn write_more<K: Sink>(
         &mut self,
         sink: &mut K,
         accounts: &Option<Accounts>,
@@ -237,19 +171,44 @@ impl PaymentRows {
         *place = closed.ledger.receipts().len();
         sheet.page.flush_rows(sink)
     }
+}
 
-    /// Writes the header, if it is not out.
-    pub fn end<K: Sink>(&mut self, sink: &mut K) -> Result<(), WriteFault>
-        requires sound { CanBeUsed (K.state sink.old) }
-        requires size { size_of self.old.page < 2 ^ 62 }
-        ensures written { Written result (K.state sink.old) (K.state sink.new)
-            self.old.page self.new.page [] }
-        ensures empty { OnOk result (self.new.page.bytes ≡ []) }
-        ensures batches { self.new.batch ≡ self.old.batch }
-        ensures places { self.new.place ≡ self.old.place }
-    {
+impl TableRows for PaymentRows {
+    ghost kind = { payments };
+
+    ghost shown = { λ r. r };
+
+    ghost holds = { λ r version genesis payloads. Unit {0} };
+
+    fn none(alloc: Global) -> Result<PaymentRows, AllocError> {
+        Ok(PaymentRows {
+            sheet: sheet_after(alloc, HEADER)?,
+            batch: 0,
+            place: 0,
+        })
+    }
+
+    fn put_more<K: Sink>(
+        &mut self,
+        alloc: Global,
+        sink: &mut K,
+        accounts: &Option<Accounts>,
+        closed: &Closed<'_>,
+    ) -> Result<(), Fault> {
+        let _ = alloc;
+        self.write_more(sink, accounts, closed)?;
+        Ok(())
+    }
+
+    fn put_end<K: Sink>(&mut self, sink: &mut K) -> Result<(), WriteFault> {
         self.sheet.page.flush(sink)
     }
+
+    ghost no_rows = { no_payments };
+
+    ghost short = { payments_short };
+
+    ghost is_text = { payments_table };
 }
 
 /// The table of the payments of the order, as what a feed answers: all of them, or those that name one of some accounts. It
@@ -275,8 +234,6 @@ impl Answer for Transactions {
         sink: &mut K,
     ) -> Result<Status, Fault> {
         let _ = rt;
-        let intake = closed.order.intake;
-        write_table(alloc, sink, &self.accounts, intake, closed.ledger)?;
-        Ok(end_of(intake))
+        write_whole::<PaymentRows, K>(alloc, sink, &self.accounts, closed)
     }
 }

@@ -10,7 +10,8 @@ use Rattle.bk_results.specs.declared.fault.Fault.TheVariants as fault
 use Rattle.bk_follow.specs.Follower.{FeedFails, Followed, SettleFails}
 use Rattle.bk_tail.specs.Tailing.{EndsAsAsked}
 use Rattle.bk_tail.specs.private.Steps.{EndsIf}
-use Rattle.bk_tail.specs.private.Putting.{PutNot, TableKind}
+use Rattle.bk_tables.specs.Kinds.{TableKind}
+use Rattle.bk_tail.specs.private.Putting.{PutNot}
 
 -- a fault that is none of the feed's ending too early
 abbrev pub IsNotShort : Fault → Type 0

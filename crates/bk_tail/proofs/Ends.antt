@@ -24,7 +24,8 @@ use Rattle.bk_results.specs.declared.status.Status.{Status}
 use Rattle.bk_follow.specs.Follower.{Followed}
 use Rattle.bk_tx.specs.Batches.{transactions_of}
 use Rattle.bk_tail.specs.Tailing.{TableBefore, TableSoFar, TailFailsBy}
-use Rattle.bk_tail.specs.private.Putting.{HasPut, IsTextOf, PutFails, PutNot, TableKind, TableUpTo}
+use Rattle.bk_tables.specs.Kinds.{IsTextOf, TableKind}
+use Rattle.bk_tail.specs.private.Putting.{HasPut, PutFails, PutNot, TableUpTo}
 use Rattle.bk_tail.specs.private.Steps.{AdvanceFails, GaveAfter, HasFollowed, IsWholeFeed}
 use Rattle.bk_tail.proofs.Growing.{IsBookAt, book_at, put_stops}
 use Rattle.bk_tail.proofs.Places.{before_longer, out_before, out_so_far, so_far_longer}

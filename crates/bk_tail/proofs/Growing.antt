@@ -20,7 +20,8 @@ use Rattle.bk_follow.specs.Follower.{BookValue, Followed, HasCome, IsCurrent, Is
 use Rattle.bk_follow.proofs.Books.{whole_part}
 use Rattle.bk_follow.proofs.Following.{good_of}
 use Rattle.bk_tx.specs.Batches.{transactions_of}
-use Rattle.bk_tail.specs.private.Putting.{AboutAccounts, HasPut, IsPartDone, PutFails, TableKind, TableUpTo}
+use Rattle.bk_tables.specs.Kinds.{AboutAccounts, TableKind}
+use Rattle.bk_tail.specs.private.Putting.{HasPut, IsPartDone, PutFails, TableUpTo}
 use Rattle.bk_tail.proofs.Places.{below_order, up_to_longer}
 use Rattle.bk_tail.proofs.OneVersion.{known_before}
 

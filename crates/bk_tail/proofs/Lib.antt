@@ -3,10 +3,8 @@ mod OneVersion
 mod Places
 mod Growing
 mod Executed
-mod PaymentsPut
 mod Step
 mod Flawed
 mod Asked
 mod Ends
-mod PostingsPut
 mod RowsStay

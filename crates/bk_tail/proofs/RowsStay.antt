@@ -16,9 +16,9 @@ use Rattle.bk_tables.specs.Csv.{row_text}
 use Rattle.bk_tables.specs.Payments.{payments_header, payments_text, rows_from}
 use Rattle.bk_tables.specs.Tables.{IsPaymentTable, IsPostingTable}
 use Rattle.bk_tail.specs.Laws.{RowsStay}
-use Rattle.bk_tail.specs.private.Putting.{TableKind, payments, postings}
-use Rattle.bk_tail.proofs.PaymentsPut.{payments_grow}
-use Rattle.bk_tail.proofs.PostingsPut.{postings_grow}
+use Rattle.bk_tables.specs.Kinds.{TableKind, payments, postings}
+use Rattle.bk_tables.proofs.PaymentsPut.{payments_grow}
+use Rattle.bk_tables.proofs.PostingsPut.{postings_grow}
 
 -- a table is read off an order: its header and the rows of the order's batches
 pub record IsReadOff (k : TableKind) (feed : FeedValue) (text : List ℕ) : Type 0 where

@@ -1,6 +1,5 @@
 -- The rows of the places that a settle executed.
 use Rattle.std.proofs.Common.{◌≡◌, ◌⊎◌, ◌∙◌, ℕ, ◌+◌, ◌*◌, ◌<◌, ◌≤◌, List, [], ◌++◌, length, take, Option, Some, None, refl, sym, ap, subst, length-append, arith}
-use Rattle.std.proofs.Math.Nat.{mul-le-mul_right}
 use Rattle.std.proofs.lemmas.List.{take_at}
 use Rattle.std.specs.Prelude.{IfErr, IfSome, OnOk, Result, Ok, Err}
 use Rattle.bk_base.specs.declared.genesis.Row.{Row}
@@ -22,7 +21,8 @@ use Rattle.bk_follow.proofs.ClosedBooks.{closed_for}
 use Rattle.bk_tables.specs.Growing.{Shown, ShowsAll, ShowsFirst, none_shown}
 use Rattle.bk_tables.proofs.PaymentTables.{receipts_each}
 use Rattle.bk_tail.specs.Tailing.{TableSoFar}
-use Rattle.bk_tail.specs.private.Putting.{AboutAccounts, IsMore, IsPutOn, IsTextOf, PutNot, PutsMore, PutsNoMore, TableKind, payloads_in}
+use Rattle.bk_tables.specs.Kinds.{AboutAccounts, IsMore, IsTextOf, PutsMore, PutsNoMore, TableKind, payloads_in}
+use Rattle.bk_tail.specs.private.Putting.{IsPutOn, PutNot}
 use Rattle.bk_tail.proofs.Growing.{IsBookAt, begins, book_at, holds_longer, none_put, put_longer, put_more, put_stops, same_version}
 use Rattle.bk_tail.proofs.OneVersion.{known_before}
 use Rattle.bk_tail.proofs.Places.{out_so_far}
@@ -151,7 +151,3 @@ module _ (k : TableKind) (no_rows : (version : Version) (genesis : List Row) →
     after = λ version known two. subst (λ (fs : List Frame). holds version (genesis_of fs) done.payloads.list) (sym more.1)
         (holds_longer k holds frames more.0 version done p.put.shown p.put.few p.before (λ two. p.after version (known_before bytes all frames whole v.cut w.cut version longer come.cuts then.cuts two known) two));
   }
-
--- a page of few rows is short
-pub few_bytes : (most place size : ℕ) → most ≤ 1800 → place < 4294967296 → size ≤ most * place + 100 → size < 4611686018427387904
-few_bytes most place size short few h = let wide = mul-le-mul_right place short in omega (arith, wide, few, h)

@@ -9,7 +9,6 @@ mod laws;
 mod payments;
 mod piece;
 mod postings;
-mod rows;
 mod tail;
 
 pub use laws::rows_stay;

@@ -7,55 +7,18 @@ ghost use Rattle.bk_frames.specs.Device.{CanBeUsed};
 ghost use Rattle.bk_results.specs.Devices.{devices};
 ghost use Rattle.bk_tables.specs.Tables.{IsPaymentTable};
 ghost use Rattle.bk_tail.specs.Tailing.{EndsAsAsked, TailFailsBy};
-ghost use Rattle.bk_tail.specs.private.Kinds.{no_payments, payments_short, payments_table};
-ghost use Rattle.bk_tail.specs.private.Putting.{payments};
 
-use crate::rows::TableRows;
 use crate::tail::tail_table;
-use bk_answer::{Closed, Ended};
+use bk_answer::Ended;
 use bk_follow::Settings;
-use bk_frames::{Sink, Source, WriteFault};
+use bk_frames::{Sink, Source};
 use bk_pool::Gate;
 use bk_results::{Fault, Status};
-use bk_tables::{Accounts, PaymentRows, Transactions};
-use std::alloc::{AllocError, Global};
+use bk_tables::{PaymentRows, Transactions};
+use std::alloc::Global;
 use std::sync::Wait;
 use std::thread::Threads;
 use std::time::Clock;
-
-impl TableRows for PaymentRows {
-    ghost kind = { payments };
-
-    ghost shown = { λ r. r };
-
-    ghost holds = { λ r version genesis payloads. Unit {0} };
-
-    fn none(alloc: Global) -> Result<PaymentRows, AllocError> {
-        PaymentRows::new(alloc)
-    }
-
-    fn put_more<K: Sink>(
-        &mut self,
-        alloc: Global,
-        sink: &mut K,
-        accounts: &Option<Accounts>,
-        closed: &Closed<'_>,
-    ) -> Result<(), Fault> {
-        let _ = alloc;
-        self.write_more(sink, accounts, closed)?;
-        Ok(())
-    }
-
-    fn put_end<K: Sink>(&mut self, sink: &mut K) -> Result<(), WriteFault> {
-        self.end(sink)
-    }
-
-    ghost no_rows = { no_payments };
-
-    ghost short = { payments_short };
-
-    ghost is_text = { payments_table };
-}
 
 /// Reads a feed to its end, and writes the table of its payments as it becomes final: after each piece of at most
 /// [`PIECE`](bk_frames::PIECE) bytes, the rows of the places that the whole frames so far add to the order, before more is

@@ -5,58 +5,20 @@ ghost use Rattle.bk_answer.specs.Answers.{IsAnswered};
 ghost use Rattle.bk_answer.specs.Flaws.{judged_text};
 ghost use Rattle.bk_frames.specs.Device.{CanBeUsed};
 ghost use Rattle.bk_results.specs.Devices.{devices};
-ghost use Rattle.bk_tables.specs.Growing.{AreAfter};
 ghost use Rattle.bk_tables.specs.Tables.{IsPostingTable};
 ghost use Rattle.bk_tail.specs.Tailing.{EndsAsAsked, TailFailsBy};
-ghost use Rattle.bk_tail.specs.private.Kinds.{no_postings, postings_short, postings_table};
-ghost use Rattle.bk_tail.specs.private.Putting.{postings};
 
-use crate::rows::TableRows;
 use crate::tail::tail_table;
-use bk_answer::{Closed, Ended};
+use bk_answer::Ended;
 use bk_follow::Settings;
-use bk_frames::{Sink, Source, WriteFault};
+use bk_frames::{Sink, Source};
 use bk_pool::Gate;
 use bk_results::{Fault, Status};
-use bk_tables::{Accounts, PostingRows, Postings};
-use std::alloc::{AllocError, Global};
+use bk_tables::{PostingRows, Postings};
+use std::alloc::Global;
 use std::sync::Wait;
 use std::thread::Threads;
 use std::time::Clock;
-
-impl TableRows for PostingRows {
-    ghost kind = { postings };
-
-    ghost shown = { λ r. r.shown };
-
-    ghost holds = { λ r version genesis payloads. AreAfter version genesis payloads r.state };
-
-    fn none(alloc: Global) -> Result<PostingRows, AllocError> {
-        PostingRows::new(alloc)
-    }
-
-    fn put_more<K: Sink>(
-        &mut self,
-        alloc: Global,
-        sink: &mut K,
-        accounts: &Option<Accounts>,
-        closed: &Closed<'_>,
-    ) -> Result<(), Fault> {
-        self.prepare(alloc, closed)?;
-        self.write_more(sink, accounts, closed)?;
-        Ok(())
-    }
-
-    fn put_end<K: Sink>(&mut self, sink: &mut K) -> Result<(), WriteFault> {
-        self.end(sink)
-    }
-
-    ghost no_rows = { no_postings };
-
-    ghost short = { postings_short };
-
-    ghost is_text = { postings_table };
-}
 
 /// Reads a feed to its end, and writes the table of what its places do to each account as it becomes final: after each
 /// piece of at most [`PIECE`](bk_frames::PIECE) bytes, the rows of the places that the whole frames so far add to the

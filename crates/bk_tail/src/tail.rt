@@ -16,13 +16,12 @@ ghost use Rattle.bk_tail.specs.Tailing.{EndsAsAsked, TailFailsBy};
 ghost use Rattle.bk_tail.specs.private.Putting.{IsPutOn, PutNot};
 
 use crate::piece::{advance, reach};
-use crate::rows::TableRows;
 use bk_answer::Ended;
 use bk_follow::{Follower, Settings};
 use bk_frames::{PIECE, Sink, Source};
 use bk_pool::Gate;
 use bk_results::{Fault, Status};
-use bk_tables::Accounts;
+use bk_tables::{Accounts, TableRows};
 use std::alloc::Global;
 use std::sync::Wait;
 use std::thread::Threads;

@@ -1,17 +1,12 @@
 -- The link of what was made of a feed.
-use Rattle.std.specs.Prelude.{◌≡◌, ◌<◌, ◌++◌, length, take, codes}
+use Rattle.std.specs.Prelude.{◌≡◌, length}
 use Rattle.sha2.specs.Sha256.{sha256}
 use Rattle.bk_base.specs.Genesis.{total_of}
 use Rattle.bk_committee.specs.Payload.{committee_bytes}
-use Rattle.bk_frames.specs.Device.{Device, Fails, Receives}
 use Rattle.bk_report.specs.Leaves.{state_of}
-use Rattle.bk_results.specs.Devices.{IsUntouched}
-use Rattle.bk_results.specs.declared.fault.Fault.{Fault}
-use Rattle.bk_results.specs.declared.fault.Fault.TheVariants as fault
 use Rattle.bk_answer.specs.Closed.{ClosedValue}
 use Rattle.bk_answer.specs.RunReport.{reach_of}
 use Rattle.bk_chain.specs.declared.link.LinkValue.{LinkValue}
-use Rattle.bk_chain.specs.Line.{link_line}
 
 -- the link of what was taken of frames, of opening accounts and of what was executed
 pub record IsLinkOfClosed (c : ClosedValue) (v : LinkValue) : Type 0 where
@@ -23,10 +18,3 @@ pub record IsLinkOfClosed (c : ClosedValue) (v : LinkValue) : Type 0 where
   pub money : v.money ≡ total_of c.ledger.state.rows
   pub transactions : v.transactions ≡ length c.ledger.receipts
   pub end : v.end ≡ reach_of c.order.taken.ordered.payloads.missing
-
--- its line was not written: some of its first bytes are out, and a call of the sink failed; or memory ran out
-abbrev pub LineFails : LinkValue → Device → Device → Fault → Type 0
-LineFails v old new (fault.Write written) =
-    (written < length (link_line v ++ codes "\n")) × Receives old new (take written (link_line v ++ codes "\n")) × Fails old new
-LineFails v old new fault.Memory = IsUntouched old new
-LineFails v old new other = ⊥

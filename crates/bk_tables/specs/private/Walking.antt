@@ -12,9 +12,8 @@ use Rattle.bk_rules.specs.Ledger.{Ledger, are_covered}
 use Rattle.bk_rules.specs.declared.receipt.Receipt.{Receipt}
 use Rattle.bk_views.specs.declared.entry.Role.TheVariants as role
 use Rattle.bk_views.specs.Statement.{amount_by, credited_by}
-use Rattle.bk_tables.specs.Csv.{row_text}
 use Rattle.bk_tables.specs.Payments.{paid_by}
-use Rattle.bk_tables.specs.Postings.{Part, guard_parts, parts_of, postings_header, postings_text}
+use Rattle.bk_tables.specs.Postings.{Part, guard_parts, parts_of}
 use Rattle.bk_tables.specs.declared.parts.Played.{Played}
 use Rattle.bk_tables.specs.declared.parts.Spot.{Spot}
 use Rattle.bk_tables.specs.declared.posting.Posting.{Posting}
@@ -92,10 +91,6 @@ abbrev pub walk_rows : Version → ℕ → List (Option Transaction) → List Ro
 walk_rows version place [] rows = []
 walk_rows version place (t ∷ more) rows =
     rows_of place version rows t ++ walk_rows version (place + 1) more (outcome_of version t rows).after
-
--- the table of these transactions
-abbrev pub walk_text : Option (List ℕ) → Version → List (Option Transaction) → List Row → List ℕ
-walk_text ids version txs rows = row_text postings_header ++ postings_text ids (walk_rows version 0 txs rows)
 
 -- ---- the accounts before the first place
 

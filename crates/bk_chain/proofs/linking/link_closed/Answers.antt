@@ -17,5 +17,5 @@ returns g c =
       accounts = omega (arith, c.len.ensures, c.in_ok-rows.rows.ok.0, long);
       money = c.total.ensures ∙ (λ i. total_of (c.state-2.ensures i).rows);
       transactions = ap length c.receipts.ensures;
-      end = c.end_of.ensures;
+      end = c.reach.ensures;
     }

@@ -1,4 +1,4 @@
-use Rattle.bk_tables.proofs.PartSums.{out_is_in}
+use Rattle.bk_tables.proofs.PlaceSums.{out_is_in}
 use Rattle.bk_tables.proofs.laws.out_is_all_in.Goals as goal
 
 pub returns : goal.returns

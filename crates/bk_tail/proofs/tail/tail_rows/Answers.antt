@@ -15,7 +15,8 @@ use Rattle.bk_tx.specs.Batches.{transactions_of}
 use Rattle.bk_follow.specs.Follower.{receipts_in}
 use Rattle.bk_tail.proofs.Executed.{done_executed}
 use Rattle.bk_tail.proofs.Flawed.{whole_order}
-use Rattle.bk_tail.proofs.Step.{few_bytes, none_put_on, put_on}
+use Rattle.bk_tables.proofs.WholeTables.{few_bytes}
+use Rattle.bk_tail.proofs.Step.{none_put_on, put_on}
 use Rattle.bk_tail.proofs.Pieces.{none_followed}
 use Rattle.bk_tail.proofs.tail.tail_rows.Goals as goal
 

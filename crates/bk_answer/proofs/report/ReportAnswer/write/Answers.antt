@@ -1,8 +1,5 @@
 use denote.Param.Send.{given_sync, param_sync}
-use Rattle.std.proofs.Common.{ap}
 use Rattle.std.proofs.lemmas.Result.{err_from_is_err_and}
-use Rattle.bk_results.specs.declared.status.Status.TheVariants as status
-use Rattle.bk_answer.specs.RunReport.{reach_of}
 use Rattle.bk_answer.specs.Values.{closed_value, order_value}
 use Rattle.bk_answer.proofs.Reports.{few_rejected, few_waits, few_of_anchors, few_of_order, few_counts, few_receipts, few_of_rows, order_made, report_out, report_front}
 use Rattle.bk_answer.proofs.report.ReportAnswer.write.Goals as goal
@@ -36,10 +33,6 @@ returns-in_err-write_shown-clause-fault g c =
     let p = err_from_is_err_and c.from_residual-in_err-write_shown.result c.from_residual-in_err-write_shown.ensures.1 in
     rw (p.1, p.2) (report_front (closed_value c.args.closed.now) c.in_ok-shown.shown.waiting.items c.in_ok-shown.shown.rows.items _ _ _ _ c.in_ok-page.ensures (record { rows_are = c.in_ok-shown.ensures.rows; waits = c.in_ok-shown.ensures.waiting }) c.in_err-write_shown.ensures.written.1, c.in_err-write_shown.ensures.written.0)
 
-pub returns-in-Some-clause-out : goal.returns-in-Some-clause-out
-returns-in-Some-clause-out g c =
-    (report_out (closed_value c.args.closed.now) c.in_ok-shown.shown.waiting.items c.in_ok-shown.shown.rows.items status.Missing _ _ _ _ c.in_ok-page.ensures c.in_ok-write_shown.ensures.empty (record { rows_are = c.in_ok-shown.ensures.rows; waits = c.in_ok-shown.ensures.waiting }) (ap reach_of c.in-Some.ensures) c.in_ok-write_shown.ensures.written.1, c.in_ok-write_shown.ensures.written.0)
-
 pub returns-clause-out : goal.returns-clause-out
 returns-clause-out g c =
-    (report_out (closed_value c.args.closed.now) c.in_ok-shown.shown.waiting.items c.in_ok-shown.shown.rows.items status.Whole _ _ _ _ c.in_ok-page.ensures c.in_ok-write_shown.ensures.empty (record { rows_are = c.in_ok-shown.ensures.rows; waits = c.in_ok-shown.ensures.waiting }) (ap reach_of c.in-None.ensures) c.in_ok-write_shown.ensures.written.1, c.in_ok-write_shown.ensures.written.0)
+    (report_out (closed_value c.args.closed.now) c.in_ok-shown.shown.waiting.items c.in_ok-shown.shown.rows.items c.reach.result _ _ _ _ c.in_ok-page.ensures c.in_ok-write_shown.ensures.empty (record { rows_are = c.in_ok-shown.ensures.rows; waits = c.in_ok-shown.ensures.waiting }) c.reach.ensures c.in_ok-write_shown.ensures.written.1, c.in_ok-write_shown.ensures.written.0)

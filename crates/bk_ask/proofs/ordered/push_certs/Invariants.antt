@@ -1,0 +1,7 @@
+use Rattle.std.proofs.Common.{◌≡◌, ◌++◌, take}
+use Rattle.bk_report.specs.Lines.{text_of}
+use Rattle.bk_report.specs.RunLines.{cert_lines}
+use Rattle.bk_ask.proofs.ordered.push_certs.Given as goal
+
+abbrev pub invariant-loop-place : goal.invariant-loop-place
+invariant-loop-place l = l.text.items ≡ l.initial.text.items ++ text_of (take l.place-index (cert_lines l.order))
