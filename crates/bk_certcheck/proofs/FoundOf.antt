@@ -11,10 +11,11 @@ use Rattle.bk_base.specs.Feed.{Frame, frame_of}
 use Rattle.bk_frames.specs.Cutting.{frames_in}
 use Rattle.bk_committee.specs.Payload.{CommitteeValue}
 use Rattle.bk_certcheck.specs.declared.verdict.Verdict.{Verdict}
+use Rattle.bk_certcheck.specs.declared.verdict.Verdict.TheVariants as verdict
 use Rattle.bk_certcheck.specs.Verdicts.{IsVerdict}
 use Rattle.bk_certcheck.specs.declared.finding.Found.{Found}
 use Rattle.bk_certcheck.specs.Frames.{IsFound, certificate_in, batch_in, certificates_in, batches_in}
-use Rattle.bk_certcheck.specs.private.Finding.{CanTakeNext, TakesNext, IsPutting}
+use Rattle.bk_certcheck.specs.private.Finding.{CanTakeNext, TakesNext, IsPutting, found_by}
 use Rattle.bk_certcheck.proofs.Zips.{zip_push}
 
 -- the payloads of frames, from the frames as they are held
@@ -51,8 +52,12 @@ found_on : (k : CommitteeValue) (all rest done : List Frame) (f : Frame) (left :
 found_on k all rest done f left out one split verdicts found here =
     (done ++ f ∷ [], split ∙ sym (append_assoc done (f ∷ []) rest), verdicts, zip_push (IsFound k) done out f one found here)
 
+by_verdict : (k : CommitteeValue) (payload : List ℕ) (v : Verdict) → IsVerdict k payload v → IsFound k (frame_of kind.Certificate payload) (found_by payload v)
+by_verdict k payload (verdict.Good c) h = (refl, h)
+by_verdict k payload (verdict.Broken r) h = (refl, h, refl)
+
 pub putting_on : (all rest : List Frame) (of : Kind) (payload : List ℕ) (vs left left' : List Verdict) (ds ds' : List (List ℕ)) (out : List Found) (one : Found)
-    → IsPutting all (frame_of of payload ∷ rest) vs left ds out → TakesNext of left left' ds ds' one → IsPutting all rest vs left' ds' (out ++ one ∷ [])
+    → IsPutting all (frame_of of payload ∷ rest) vs left ds out → TakesNext of payload left left' ds ds' one → IsPutting all rest vs left' ds' (out ++ one ∷ [])
 putting_on all rest kind.Committee payload vs left left' ds ds' out one j (e, d, is) = record {
   counted = ap (λ (l : List Verdict). length l) e ∙ j.counted;
   hashed = d ∙ j.hashed;
@@ -73,7 +78,7 @@ putting_on all rest kind.Certificate payload vs left left' ds ds' out one j (v, 
   is_found = λ k h. let p = j.is_found k h in
       let z : AllZip (IsVerdict k) (payload ∷ certificates_in rest) (v ∷ left') = subst (AllZip (IsVerdict k) (payload ∷ certificates_in rest)) e p.2 in
       found_on k all rest p.0 (frame_of kind.Certificate payload) left' out one p.1 z.1 p.3
-      (subst (IsFound k (frame_of kind.Certificate payload)) (sym is) (refl, z.0));
+      (subst (IsFound k (frame_of kind.Certificate payload)) (sym is) (by_verdict k payload v z.0));
 }
 putting_on all rest kind.Batch payload vs left left' ds ds' out one j (x, e, d, is) = record {
   counted = ap (λ (l : List Verdict). length l) e ∙ j.counted;
@@ -106,7 +111,7 @@ can_take_at xs i x low is vs left ds out j =
 
 pub putting_at : (xs : List (Kind × Vec ℕ)) (i : ℕ) (x : Kind × Vec ℕ) → i < length xs → x ≡ get_or xs i x
     → (vs left left' : List Verdict) (ds ds' : List (List ℕ)) (out new : List Found) (one : Found)
-    → IsPutting (frames_in xs) (frames_in (drop i xs)) vs left ds out → TakesNext x.0 left left' ds ds' one → new ≡ out ++ one ∷ []
+    → IsPutting (frames_in xs) (frames_in (drop i xs)) vs left ds out → TakesNext x.0 x.1.items left left' ds ds' one → new ≡ out ++ one ∷ []
     → IsPutting (frames_in xs) (frames_in (drop (i + 1) xs)) vs left' ds' new
 putting_at xs i x low is vs left left' ds ds' out new one j taken pushed =
     subst (λ (o : List Found). IsPutting (frames_in xs) (frames_in (drop (i + 1) xs)) vs left' ds' o) (sym pushed)

@@ -8,12 +8,14 @@ ghost use Rattle.sha2.specs.Sha256.{sha256};
 ghost use Rattle.bk_committee.specs.Payload.{CommitteeValue};
 ghost use Rattle.bk_frames.specs.Cutting.{frames_in};
 ghost use Rattle.bk_certcheck.specs.Verdicts.{IsVerdict};
-ghost use Rattle.bk_certcheck.specs.Frames.{IsFound, batch_in, batches_in, certificate_in, certificates_in};
-ghost use Rattle.bk_certcheck.specs.private.Finding.{CanTakeNext, TakesNext};
+ghost use Rattle.bk_certcheck.specs.Frames.{IsFound, batch_in, batches_in, certificate_in, certificates_in, id_in};
+ghost use Rattle.bk_certcheck.specs.private.Finding.{CanTakeNext, TakesNext, found_by};
 
 use crate::each::check_each;
-use crate::verdict::Verdict;
+use crate::rule::Rule;
+use crate::verdict::{Checked, Verdict};
 use bk_base::Kind;
+use bk_cert::{CertView, id_of_bytes};
 use bk_committee::Committee;
 use bk_digest::Digest32;
 use bk_lanes::digest_each;
@@ -27,8 +29,10 @@ const FEWEST_BUSY: usize = 5;
 /// What is found of a frame whose payload stays where it is.
 #[derive(Debug, Drop)]
 pub enum Found {
-    /// The verdict on a certificate.
-    Certificate(Verdict),
+    /// A certificate that breaks no rule.
+    Good(Checked),
+    /// The least rule that the bytes of a certificate break, and its id where they are one.
+    Broken(Rule, Option<Digest32>),
     /// The SHA-256 of a batch.
     Batch(Digest32),
     /// A committee or a genesis.
@@ -113,23 +117,43 @@ fn digests_of(alloc: Global, batches: &[&[u8]]) -> Result<Vec<[u8; 32]>, AllocEr
     Ok(digests)
 }
 
+// The id of the certificate that the bytes encode.
+fn id_in(payload: &[u8]) -> Option<Digest32>
+    ensures { result ≡ id_in payload.now }
+{
+    let view = CertView::of(payload)?;
+    Some(id_of_bytes(view.header_bytes()))
+}
+
+// What is found of a certificate with these bytes, by the verdict on them.
+fn found_by(payload: &[u8], verdict: Verdict) -> Found
+    ensures { result ≡ found_by payload.now verdict }
+{
+    match verdict {
+        Verdict::Good(good) => Found::Good(good),
+        Verdict::Broken(rule) => Found::Broken(rule, id_in(payload)),
+    }
+}
+
 // What is found of the next frame, from the verdicts and the digests that are left.
 fn next_found(
-    kind: Kind,
+    frame: &(Kind, Vec<u8>),
     verdicts: &mut IntoIter<Verdict>,
     digests: &mut IntoIter<[u8; 32]>,
 ) -> Found
-    requires { CanTakeNext kind (into_iter_items verdicts.old) (into_iter_items digests.old) }
-    ensures { TakesNext kind (into_iter_items verdicts.old) (into_iter_items verdicts.new)
-        (into_iter_items digests.old) (into_iter_items digests.new) result }
+    requires { CanTakeNext frame.now.0 (into_iter_items verdicts.old)
+        (into_iter_items digests.old) }
+    ensures { TakesNext frame.now.0 frame.now.1.items (into_iter_items verdicts.old)
+        (into_iter_items verdicts.new) (into_iter_items digests.old)
+        (into_iter_items digests.new) result }
 {
-    match kind {
+    match frame.0 {
         Kind::Committee | Kind::Genesis => Found::Other,
         Kind::Certificate => {
             let Some(verdict) = verdicts.next() else {
                 unreachable!();
             };
-            Found::Certificate(verdict)
+            found_by(&frame.1, verdict)
         }
         Kind::Batch => {
             let Some(digest) = digests.next() else {
@@ -157,7 +181,7 @@ fn put_together(
     let mut digests = digests.into_iter();
     let mut out = Vec::with_capacity(alloc, frames.len())?;
     for frame in frames {
-        out.push(next_found(frame.0, &mut verdicts, &mut digests))?;
+        out.push(next_found(frame, &mut verdicts, &mut digests))?;
     }
     Ok(out)
 }

@@ -1,26 +1,22 @@
 //! Verdicts on certificates: which local rule the bytes of a certificate break first, if they break any.
 //!
 //! Certificates are judged in place, many together: first by the rules that need no hash, then all ids are hashed side
-//! by side, then all tags. Only the header of a good certificate is copied. The frames of a feed are judged in parts of
-//! about as many bytes each, on as many threads as there are processors.
+//! by side, then all tags. Only the header of a good certificate is copied. The frames of a feed are judged in parts of as
+//! many each, on as many threads as there are processors.
 #![tactic(auto)]
 
-mod all;
 mod checking;
 mod each;
 mod finding;
 mod frames;
-mod joining;
 mod laws;
-mod parts;
 mod rule;
 mod screening;
 mod tagging;
 mod tests_of_rules;
 mod verdict;
 
-pub use all::check_all;
-pub use checking::check;
+pub use checking::{check, check_all};
 pub use each::check_each;
 pub use finding::{Found, find_each};
 pub use frames::find_all;

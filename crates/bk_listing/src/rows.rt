@@ -1,6 +1,6 @@
 //! What the line of a frame says, but for its number and its offset.
 
-ghost use Rattle.std.specs.Prelude.{◌≡◌, ◌<◌, ◌^◌, List, [], ℕ, IfOk, count_by, length};
+ghost use Rattle.std.specs.Prelude.{◌≡◌, ◌<◌, ◌^◌, ◌∷◌, List, [], ℕ, IfOk, count_by, length};
 ghost use Rattle.std.specs.List.{AllZip};
 ghost use Rattle.sha2.specs.Sha256.{sha256};
 ghost use Rattle.bk_frames.specs.Cutting.{frames_in};
@@ -9,17 +9,17 @@ ghost use Rattle.bk_base.specs.Genesis.{total_of};
 ghost use Rattle.bk_base.specs.declared.kind.Kind.{Kind};
 ghost use Rattle.bk_committee.specs.Payload.{CommitteeValue};
 ghost use Rattle.bk_cert.specs.Identity.{id_of};
-ghost use Rattle.bk_certcheck.specs.Frames.{IsFound};
-ghost use Rattle.bk_certcheck.specs.Verdicts.{IsVerdict};
+ghost use Rattle.bk_certcheck.specs.Frames.{IsFound, id_in};
+ghost use Rattle.bk_certcheck.specs.Verdicts.{IsBroken, IsGood};
+ghost use Rattle.bk_certcheck.specs.declared.verdict.Verdict.TheVariants as verdict;
 ghost use Rattle.bk_listing.specs.Listing.{accounts_in, batch_words, cert_row, judged_words};
-ghost use Rattle.bk_listing.specs.Rejects.{rules_by};
 ghost use Rattle.bk_listing.specs.private.FrameRow.{IsRow, is_rejected, row_rules, row_words};
 ghost use Rattle.bk_listing.specs.declared.rows.FrameRow.TheVariants as shown;
 ghost use Rattle.bk_tx.specs.Batches.{count_in};
 
 use bk_base::{Kind, Row, read_genesis};
-use bk_cert::{CertView, id_of_bytes};
-use bk_certcheck::{Found, Rule, Verdict, find_all};
+use bk_cert::CertView;
+use bk_certcheck::{Checked, Found, Rule, find_all};
 use bk_committee::Committee;
 use bk_digest::Digest32;
 use bk_tx::read_batch;
@@ -86,22 +86,31 @@ fn cert_row(view: &CertView<'_>, id: Digest32) -> CertRow
     }
 }
 
-// What a line says of the bytes of a certificate on which this is the verdict.
-fn judged(payload: &[u8], verdict: &Verdict) -> FrameRow
-    requires { (k : CommitteeValue) × IsVerdict k payload.now verdict.now }
-    ensures words { (k : CommitteeValue) → row_words k result ≡ judged_words payload.now verdict.now }
-    ensures rules { row_rules result ≡ rules_by verdict.now }
+// What a line says of the bytes of a certificate that breaks no rule.
+fn good(payload: &[u8], checked: &Checked) -> FrameRow
+    requires { (k : CommitteeValue) × IsGood k payload.now checked.now }
+    ensures words { (k : CommitteeValue)
+        → row_words k result ≡ judged_words payload.now (verdict.Good checked.now) }
+    ensures rules { row_rules result ≡ [] }
+{
+    let Some(view) = CertView::of(payload) else {
+        unreachable!()
+    };
+    FrameRow::Good(cert_row(&view, checked.id()))
+}
+
+// What a line says of the bytes of a certificate that break this rule first. It has this id where they are one.
+fn broken(payload: &[u8], rule: Rule, id: Option<Digest32>) -> FrameRow
+    requires { (k : CommitteeValue) × IsBroken k payload.now rule × (id ≡ id_in payload.now) }
+    ensures words { (k : CommitteeValue)
+        → row_words k result ≡ judged_words payload.now (verdict.Broken rule) }
+    ensures rules { row_rules result ≡ rule ∷ [] }
 {
     let Some(view) = CertView::of(payload) else {
         return FrameRow::Malformed;
     };
-    match verdict {
-        Verdict::Good(checked) => FrameRow::Good(cert_row(&view, checked.id())),
-        Verdict::Broken(rule) => {
-            let id = id_of_bytes(view.header_bytes());
-            FrameRow::Broken(cert_row(&view, id), *rule)
-        }
-    }
+    let Some(id) = id else { unreachable!() };
+    FrameRow::Broken(cert_row(&view, id), rule)
 }
 
 // The balances of accounts, added up.
@@ -144,7 +153,8 @@ fn row_of(alloc: Global, kind: Kind, payload: &[u8], found: &Found) -> Result<Fr
         → IsRow k (frame_of kind payload.now) row) }
 {
     match found {
-        Found::Certificate(verdict) => Ok(judged(payload, verdict)),
+        Found::Good(checked) => Ok(good(payload, checked)),
+        Found::Broken(rule, id) => Ok(broken(payload, *rule, *id)),
         Found::Batch(digest) => batch(alloc, payload, *digest),
         Found::Other => match kind {
             Kind::Genesis => genesis(alloc, payload),

@@ -69,9 +69,6 @@ rejects_more k number (g ∷ more) f rejects extra (first, later, at_first, at_l
 
 -- ---- one more frame of each kind
 
-not_certificate : (f : Frame) (p : List ℕ) → f ≡ frame_of kind.Certificate p → (f.kind ≡ kind.Certificate)
-not_certificate f p e = ap (λ (x : Frame). x.kind) e
-
 no_certs : (k : CommitteeValue) (f : Frame) → (f.kind ≡ kind.Certificate → ⊥) → (c : Node) → IsCertIn k (f ∷ []) c → Contains {X = Node} [] c
 no_certs k f other c s = absurd (other (ap (λ (x : Frame). x.kind) (lone f (frame_of kind.Certificate s.0) s.1)))
 
@@ -123,19 +120,19 @@ module _ (k : CommitteeValue) (before : List Frame) (f : Frame) (old new : Kept)
       by_kind kind.Certificate e = absurd (other e)
       by_kind kind.Batch e = refl
 
-  pub kept_batch : (digest payload : List ℕ) → f.kind ≡ kind.Batch → digest ≡ sha256 f.payload → payload ≡ f.payload → new.certs ≡ old.certs
-      → HaveSame new.batches (old.batches ++ batch_with digest payload ∷ []) → new.rejected ≡ old.rejected → IsKeptOf k (before ++ f ∷ []) new
-  kept_batch digest payload e d p certs batches rejected =
-      let one : batch_with digest payload ≡ batch_of f.payload = λ i. batch_with (d i) (p i) in
+  pub kept_batch : (digest : List ℕ) → f.kind ≡ kind.Batch → digest ≡ sha256 f.payload → new.certs ≡ old.certs
+      → HaveSame new.batches (old.batches ++ batch_with digest f.payload ∷ []) → new.rejected ≡ old.rejected → IsKeptOf k (before ++ f ∷ []) new
+  kept_batch digest e d certs batches rejected =
+      let one : batch_with digest f.payload ≡ batch_of f.payload = ap (λ (s : List ℕ). batch_with s f.payload) d in
       let here : Contains (f ∷ []) (frame_of kind.Batch f.payload) = subst (λ (x : Kind). Contains (f ∷ []) (frame_of x f.payload)) e (contains_first f []) in
       record {
         next = next_more before f old.next new.next kept.next next;
         certs = certs_more k before f old.certs [] new.certs kept.certs (λ c t. absurd (none_in_nil c t))
             (no_certs k f (λ q. let clash : kind.Batch ≡ kind.Certificate = sym e ∙ q in absurd cc)) (same_nothing new.certs old.certs certs);
-        batches = batches_more before f old.batches (batch_with digest payload ∷ []) new.batches kept.batches
-            (λ b t. (f.payload, here, sym (lone (batch_with digest payload) b t) ∙ one))
+        batches = batches_more before f old.batches (batch_with digest f.payload ∷ []) new.batches kept.batches
+            (λ b t. (f.payload, here, sym (lone (batch_with digest f.payload) b t) ∙ one))
             (λ b s. let q : f.payload ≡ s.0 = ap (λ (x : Frame). x.payload) (lone f (frame_of kind.Batch s.0) s.1) in
-            subst (Contains (batch_with digest payload ∷ [])) (one ∙ ap batch_of q ∙ sym s.2) (contains_first (batch_with digest payload) []))
+            subst (Contains (batch_with digest f.payload ∷ [])) (one ∙ ap batch_of q ∙ sym s.2) (contains_first (batch_with digest f.payload) []))
             batches;
         rejected = nothing_rejected (λ q. let clash : kind.Batch ≡ kind.Certificate = sym e ∙ q in absurd cc) rejected;
         tally = tally;

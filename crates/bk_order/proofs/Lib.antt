@@ -3,11 +3,9 @@ pub mod Keeping
 pub mod Ordering
 pub mod Tables
 pub mod Stopping
-pub mod Frames
 pub mod Sets
 pub mod OneReading
 pub mod Agreeing
 pub mod Together
-pub mod Groups
 pub mod OnceMore
 pub mod Tallying

@@ -1,5 +1,5 @@
 -- The table with one more frame.
-use Rattle.std.proofs.Common.{◌≡◌, ℕ, ◌+◌, ◌<◌, ◌^◌, Bool, true, false, List, [], ◌∷◌, ◌++◌, length, Option, None, refl, sym, ap, subst, ◌∙◌, arith, append_assoc}
+use Rattle.std.proofs.Common.{◌≡◌, ℕ, ◌+◌, ◌<◌, ◌^◌, Bool, true, false, List, [], ◌∷◌, ◌++◌, length, Option, refl, sym, ap, subst, ◌∙◌, arith, append_assoc}
 use Rattle.std.specs.List.{AllZip}
 use Rattle.std.proofs.lemmas.List.{append-nil}
 use Rattle.bk_base.specs.declared.kind.Kind.{Kind}
@@ -16,16 +16,14 @@ use Rattle.bk_evidence.specs.declared.batches.BatchOffer.{BatchOffer}
 use Rattle.bk_evidence.specs.declared.batches.BatchOffer.TheVariants as offer
 use Rattle.bk_evidence.specs.Laws.{HaveSame}
 use Rattle.bk_evidence.proofs.Members.{same_itself, same_repeat}
-use Rattle.bk_order.specs.declared.judging.Digested.{Digested}
-use Rattle.bk_order.specs.declared.judging.Judged.{Judged}
-use Rattle.bk_order.specs.declared.judging.Judged.TheVariants as judged
+use Rattle.bk_certcheck.specs.declared.finding.Found.{Found}
+use Rattle.bk_certcheck.specs.declared.finding.Found.TheVariants as found
 use Rattle.bk_order.specs.declared.table.Table.{Table}
 use Rattle.bk_cert.specs.Node.{Node}
 use Rattle.bk_order.specs.Frames.{certs_by, id_in, rejects_by}
 use Rattle.bk_order.specs.declared.reject.Reject.{Reject}
 use Rattle.bk_order.specs.Intake.{IsKeptOf}
-use Rattle.bk_certcheck.specs.Frames.{IsOther}
-use Rattle.bk_order.specs.private.Judging.{IsJudged}
+use Rattle.bk_certcheck.specs.Frames.{IsFound, IsOther}
 use Rattle.bk_order.specs.private.Joined.{GoesOn, IsJoined, IsKeeping, kept_in}
 use Rattle.bk_order.specs.declared.tally.Tally.{Tally}
 use Rattle.bk_order.specs.private.Tallies.{CountsBatch, CountsVerdict, HasRoom, IsNewDigest}
@@ -45,54 +43,43 @@ with_batches t bs tally = record { next = t.next; held = t.held; batches = bs; r
 room_for : (k : CommitteeValue) (fs : List Frame) (old : Table) → IsKeptOf k fs (kept_in old) → old.next + 1 < 2 ^ 64 → HasRoom old.tally
 room_for k fs old h few = tally_has_room k fs old.tally h.tally (let n = h.next in omega (arith, n, few))
 
-pub record Keeps (k : CommitteeValue) (old mid : Table) (one : Judged) : Type 0 where
+pub record Keeps (k : CommitteeValue) (old mid : Table) (f : Frame) : Type 0 where
   pub joined : IsJoined k mid.held mid.rounds
   pub goes_on : GoesOn old (tick mid)
   pub next : mid.next + 1 ≡ old.next + 1
-  pub kept : (f : Frame) (before : List Frame) → IsJudged k f one → IsKeptOf k before (kept_in old) → IsKeptOf k (before ++ f ∷ []) (kept_in (tick mid))
+  pub kept : (before : List Frame) → IsKeptOf k before (kept_in old) → IsKeptOf k (before ++ f ∷ []) (kept_in (tick mid))
 
--- the frame holds a certificate with this verdict, and with this id where it is rejected
-abbrev pub IsCertJudged : CommitteeValue → Frame → Verdict → ℕ → Option (List ℕ) → Type 0
-IsCertJudged k f v number id = (f.kind ≡ kind.Certificate) × IsVerdict k f.payload v × (rejects_by number id v ≡ rejects_by number (id_in f.payload) v)
-
-pub good_judged : (k : CommitteeValue) (one : Judged) (c : Node) (number : ℕ) → one ≡ judged.Good c → (f : Frame) → IsJudged k f one → IsCertJudged k f (verdict.Good c) number None
-good_judged k one c number e f j = let is : IsJudged k f (judged.Good c) = subst (IsJudged k f) e j in (is.0, is.1, refl)
-
-pub broken_judged : (k : CommitteeValue) (one : Judged) (r : Rule) (id : Option (List ℕ)) (number : ℕ) → one ≡ judged.Broken r id → (f : Frame) → IsJudged k f one → IsCertJudged k f (verdict.Broken r) number id
-broken_judged k one r id number e f j = let is : IsJudged k f (judged.Broken r id) = subst (IsJudged k f) e j in (is.0, is.1, ap (λ (i : Option (List ℕ)). rejects_by number i (verdict.Broken r)) is.2)
-
-pub cert_keeps : (k : CommitteeValue) (old mid : Table) (one : Judged) (v : Verdict) (id : Option (List ℕ)) → ((f : Frame) → IsJudged k f one → IsCertJudged k f v old.next id) → IsJoined k old.held old.rounds → IsJoined k mid.held mid.rounds
+pub cert_keeps : (k : CommitteeValue) (old mid : Table) (f : Frame) (v : Verdict) (id : Option (List ℕ)) → f.kind ≡ kind.Certificate → IsVerdict k f.payload v
+    → rejects_by old.next id v ≡ rejects_by old.next (id_in f.payload) v → IsJoined k old.held old.rounds → IsJoined k mid.held mid.rounds
     → mid.next ≡ old.next → IsPartOf old.rounds.held mid.rounds.held → mid.batches ≡ old.batches → HaveSame mid.held (old.held ++ certs_by v)
-    → mid.rejected.items ≡ old.rejected.items ++ rejects_by old.next id v → old.next + 1 < 2 ^ 64 → CountsVerdict old.held old.tally mid.tally v → Keeps k old mid one
-cert_keeps k old mid one v id is_cert before after next rounds batches certs rejected few counts = record {
+    → mid.rejected.items ≡ old.rejected.items ++ rejects_by old.next id v → old.next + 1 < 2 ^ 64 → CountsVerdict old.held old.tally mid.tally v → Keeps k old mid f
+cert_keeps k old mid f v id is_cert is_judged ids before after next rounds batches certs rejected few counts = record {
   joined = after;
   goes_on = record { rounds = rounds; sizes = after.sizes ∙ sym before.sizes; batches = ([], batches ∙ sym (append-nil old.batches)) };
   next = ap (λ (n : ℕ). n + 1) next;
-  kept = λ f fs j h. let is : IsCertJudged k f v old.next id = is_cert f j in
-      kept_certificate k fs f (kept_in old) (kept_in (tick mid)) h (ap (λ (n : ℕ). n + 1) next)
-      (verdict_tallied k fs f old.tally h.tally old.held mid.tally v h.certs (room_for k fs old h few) is.0 is.1 counts) v is.0 is.1 certs batches (rejected ∙ ap (λ (rs : List Reject). old.rejected.items ++ rs) is.2);
+  kept = λ fs h. kept_certificate k fs f (kept_in old) (kept_in (tick mid)) h (ap (λ (n : ℕ). n + 1) next)
+      (verdict_tallied k fs f old.tally h.tally old.held mid.tally v h.certs (room_for k fs old h few) is_cert is_judged counts) v is_cert is_judged certs batches (rejected ∙ ap (λ (rs : List Reject). old.rejected.items ++ rs) ids);
 }
 
 -- what is rejected is held neither as a certificate nor as a batch
-pub broken_keeps : (k : CommitteeValue) (old mid : Table) (one : Judged) (r : Rule) (id : Option (List ℕ)) → one ≡ judged.Broken r id → IsJoined k old.held old.rounds
+pub broken_keeps : (k : CommitteeValue) (old mid : Table) (f : Frame) (r : Rule) (id : Option (List ℕ)) → IsFound k f (found.Broken r id) → IsJoined k old.held old.rounds
     → mid.next ≡ old.next → mid.rounds ≡ old.rounds → mid.batches ≡ old.batches → mid.held ≡ old.held
-    → mid.rejected.items ≡ old.rejected.items ++ rejects_by old.next id (verdict.Broken r) → old.next + 1 < 2 ^ 64 → CountsVerdict old.held old.tally mid.tally (verdict.Broken r) → Keeps k old mid one
-broken_keeps k old mid one r id e joined next rounds batches held rejected few counts =
-    cert_keeps k old mid one (verdict.Broken r) id (broken_judged k one r id old.next e) joined
+    → mid.rejected.items ≡ old.rejected.items ++ rejects_by old.next id (verdict.Broken r) → old.next + 1 < 2 ^ 64 → CountsVerdict old.held old.tally mid.tally (verdict.Broken r) → Keeps k old mid f
+broken_keeps k old mid f r id is joined next rounds batches held rejected few counts =
+    cert_keeps k old mid f (verdict.Broken r) id is.0 is.1 (ap (λ (i : Option (List ℕ)). rejects_by old.next i (verdict.Broken r)) is.2) joined
     (subst (λ (p : List Node × RoundsValue). IsJoined k p.0 p.1) (λ j. (sym held j, sym rounds j)) joined) next
     (subst (λ (t : RoundsValue). IsPartOf old.rounds.held t.held) (sym rounds) (λ c h. h)) batches
     (same_nothing mid.held old.held held) rejected few counts
 
-pub batch_keeps : (k : CommitteeValue) (old : Table) (bs : List Batch) (tally : Tally) (one : Judged) (b : Digested) → one ≡ judged.Batch b → IsJoined k old.held old.rounds
-    → HaveSame bs (old.batches ++ batch_with b.digest b.payload.items ∷ []) → IsPrefix old.batches bs → old.next + 1 < 2 ^ 64 → CountsBatch old.batches old.tally tally b.digest
-    → Keeps k old (with_batches old bs tally) one
-batch_keeps k old bs tally one b e before same begins few counts = record {
+pub batch_keeps : (k : CommitteeValue) (old : Table) (bs : List Batch) (tally : Tally) (f : Frame) (digest : List ℕ) → IsFound k f (found.Batch digest) → IsJoined k old.held old.rounds
+    → HaveSame bs (old.batches ++ batch_with digest f.payload ∷ []) → IsPrefix old.batches bs → old.next + 1 < 2 ^ 64 → CountsBatch old.batches old.tally tally digest
+    → Keeps k old (with_batches old bs tally) f
+batch_keeps k old bs tally f digest is before same begins few counts = record {
   joined = before;
   goes_on = record { rounds = λ c h. h; sizes = refl; batches = begins };
   next = refl;
-  kept = λ f fs j h. let is : IsJudged k f (judged.Batch b) = subst (IsJudged k f) e j in
-      kept_batch k fs f (kept_in old) (kept_in (tick (with_batches old bs tally))) h refl
-      (batch_tallied k fs f old.tally h.tally old.batches tally b.digest h.batches (room_for k fs old h few) is.0 is.1 counts) b.digest b.payload.items is.0 is.1 is.2 refl same refl;
+  kept = λ fs h. kept_batch k fs f (kept_in old) (kept_in (tick (with_batches old bs tally))) h refl
+      (batch_tallied k fs f old.tally h.tally old.batches tally digest h.batches (room_for k fs old h few) is.0 is.1 counts) digest is.0 is.1 refl same refl;
 }
 
 other_apart : (x : Kind) → IsOther x → (x ≡ kind.Certificate → ⊥) × (x ≡ kind.Batch → ⊥)
@@ -101,13 +88,12 @@ other_apart kind.Genesis h = ((λ e. absurd cc), (λ e. absurd cc))
 other_apart kind.Certificate h = absurd h
 other_apart kind.Batch h = absurd h
 
-pub other_keeps : (k : CommitteeValue) (old : Table) (one : Judged) → one ≡ judged.Other → IsJoined k old.held old.rounds → Keeps k old old one
-other_keeps k old one e before = record {
+pub other_keeps : (k : CommitteeValue) (old : Table) (f : Frame) → IsFound k f found.Other → IsJoined k old.held old.rounds → Keeps k old old f
+other_keeps k old f is before = record {
   joined = before;
   goes_on = record { rounds = λ c h. h; sizes = refl; batches = ([], sym (append-nil old.batches)) };
   next = refl;
-  kept = λ f fs j h. let is : IsOther f.kind = subst (IsJudged k f) e j in
-      let apart = other_apart f.kind is in
+  kept = λ fs h. let apart = other_apart f.kind is in
       kept_other k fs f (kept_in old) (kept_in (tick old)) h refl (other_tallied k fs f old.tally h.tally old.tally apart.0 apart.1 refl) apart.0 apart.1 refl refl refl;
 }
 
@@ -148,66 +134,15 @@ goes_on_on a b c h g = record {
 pub goes_nowhere : (a : Table) → GoesOn a a
 goes_nowhere a = record { rounds = λ x t. t; sizes = refl; batches = ([], sym (append-nil a.batches)) }
 
-pub keeping_starts : (k : CommitteeValue) (start : Table) (all left : List Judged) → left ≡ all → IsJoined k start.held start.rounds → ((frames : List Frame) × AllZip (IsJudged k) frames all)
-    → start.next + length all < 2 ^ 64 → IsKeeping k start start all left
-keeping_starts k start all left e joined judged room = subst (IsKeeping k start start all) (sym e) (record {
+pub keeping_on : (k : CommitteeValue) (start table new : Table) (all before left : List Frame) (found later : List Found) (f : Frame) (one : Found) → IsKeeping k start table all before found
+    → before ≡ f ∷ left → found ≡ one ∷ later → IsJoined k new.held new.rounds → GoesOn table new → new.next ≡ table.next + 1
+    → ((fs : List Frame) → IsKeptOf k fs (kept_in table) → IsKeptOf k (fs ++ f ∷ []) (kept_in new)) → IsKeeping k start new all left later
+keeping_on k start table new all before left found later f one h e d joined goes next kept = record {
   joined = joined;
-  goes_on = goes_nowhere start;
-  room = room;
-  next = refl;
-  judged = judged;
-  kept = λ frames before zipped h. ([], frames, refl, zipped, subst (λ (fs : List Frame). IsKeptOf k fs (kept_in start)) (sym (append-nil before)) h);
-})
-
--- the judged list of frames begins with that of the first
-first_judged : (k : CommitteeValue) (frames : List Frame) (one : Judged) (left : List Judged) → AllZip (IsJudged k) frames (one ∷ left)
-    → (f : Frame) × (more : List Frame) × (frames ≡ f ∷ more) × IsJudged k f one × AllZip (IsJudged k) more left
-first_judged k [] one left h = absurd h
-first_judged k (f ∷ more) one left h = (f, more, refl, h.0, h.1)
-
-none_judged : (k : CommitteeValue) (frames : List Frame) → AllZip (IsJudged k) frames [] → frames ≡ []
-none_judged k [] h = refl
-none_judged k (f ∷ more) h = absurd h
-
-pub one_judged : (k : CommitteeValue) (start table : Table) (all before left : List Judged) (one : Judged) → before ≡ one ∷ left → IsKeeping k start table all before → (f : Frame) × IsJudged k f one
-one_judged k start table all before left one e h =
-    let g = subst (λ (js : List Judged). (frames : List Frame) × AllZip (IsJudged k) frames js) e h.judged in
-    let f = first_judged k g.0 one left g.1 in
-    (f.0, f.3)
-
-pub one_room : (k : CommitteeValue) (start table : Table) (all before left : List Judged) (one : Judged) → before ≡ one ∷ left → IsKeeping k start table all before → table.next + 1 < 2 ^ 64
-one_room k start table all before left one e h = let r = h.room in let l = ap length e in omega (arith, r, l)
-
-pub keeping_on : (k : CommitteeValue) (start table new : Table) (all before left : List Judged) (one : Judged) → before ≡ one ∷ left → IsKeeping k start table all before
-    → IsJoined k new.held new.rounds → GoesOn table new → new.next ≡ table.next + 1
-    → ((f : Frame) (fs : List Frame) → IsJudged k f one → IsKeptOf k fs (kept_in table) → IsKeptOf k (fs ++ f ∷ []) (kept_in new)) → IsKeeping k start new all left
-keeping_on k start table new all before left one e h joined goes next kept =
-    let at : IsKeeping k start table all (one ∷ left) = subst (IsKeeping k start table all) e h in
-    let first = first_judged k at.judged.0 one left at.judged.1 in
-    record {
-      joined = joined;
-      goes_on = goes_on_on start table new at.goes_on goes;
-      room = let r = at.room in omega (arith, r, next);
-      next = let n = at.next in omega (arith, n, next);
-      judged = (first.1, first.4);
-      kept = λ frames fs zipped was.
-          let g = at.kept frames fs zipped was in
-          let f = first_judged k g.1 one left g.3 in (
-            g.0 ++ f.0 ∷ [],
-            f.1,
-            g.2 ∙ (ap (λ (t : List Frame). g.0 ++ t) f.2 ∙ sym (append_assoc g.0 (f.0 ∷ []) f.1)),
-            f.4,
-            subst (λ (t : List Frame). IsKeptOf k t (kept_in new)) (append_assoc fs g.0 (f.0 ∷ [])) (kept f.0 (fs ++ g.0) f.3 g.4),
-          );
-    }
-
-pub keeping_ends : (k : CommitteeValue) (start table : Table) (all left : List Judged) → left ≡ [] → IsKeeping k start table all left
-    → (frames before : List Frame) → AllZip (IsJudged k) frames all → IsKeptOf k before (kept_in start) → IsKeptOf k (before ++ frames) (kept_in table)
-keeping_ends k start table all left e h frames before zipped was =
-    let g = h.kept frames before zipped was in
-    let none = none_judged k g.1 (subst (AllZip (IsJudged k) g.1) e g.3) in
-    let is : g.0 ≡ frames = sym (g.2 ∙ (ap (λ (t : List Frame). g.0 ++ t) none ∙ append-nil g.0)) in
-    subst (λ (t : List Frame). IsKeptOf k (before ++ t) (kept_in table)) is g.4
-
-pub keeping_next : (k : CommitteeValue) (start table : Table) (all left : List Judged) → left ≡ [] → IsKeeping k start table all left → table.next ≡ start.next + length all
-keeping_next k start table all left e h = let n = h.next in let l = ap length e in omega (arith, n, l)
+  goes_on = goes_on_on start table new h.goes_on goes;
+  room = let r = h.room in let l = ap length e in omega (arith, r, l, next);
+  is_found = (subst (λ (fs : List Frame). AllZip (IsFound k) fs (one ∷ later)) e (subst (AllZip (IsFound k) before) d h.is_found)).1;
+  done = h.done ++ f ∷ [];
+  split = h.split ∙ (ap (λ (t : List Frame). h.done ++ t) e ∙ sym (append_assoc h.done (f ∷ []) left));
+  kept = λ fs was. subst (λ (t : List Frame). IsKeptOf k t (kept_in new)) (append_assoc fs h.done (f ∷ [])) (kept (fs ++ h.done) (h.kept fs was));
+}

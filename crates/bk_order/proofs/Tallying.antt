@@ -1,7 +1,7 @@
 -- The tally of frames with one frame more.
 use Rattle.std.proofs.Common.{◌≡◌, ℕ, ◌+◌, ◌<◌, ◌≤◌, ◌^◌, Bool, true, false, List, [], ◌∷◌, ◌++◌, length, map, refl, sym, ap, subst, ◌∙◌, ⊎_elim, arith, length-append}
 use Rattle.std.specs.List.{AllZip, Contains, flat_map}
-use Rattle.std.proofs.lemmas.List.{append-nil, map-append}
+use Rattle.std.proofs.lemmas.List.{append-nil, length-map, map-append}
 use Rattle.std.proofs.lemmas.List.Concat.{flat_map-append}
 use Rattle.std.proofs.lemmas.List.Elements.{Contains-append_left, Contains-append_right, Contains-append_cases}
 use Rattle.sha2.specs.Sha256.{sha256}
@@ -23,7 +23,6 @@ use Rattle.bk_order.specs.Tally.{AreVerdicts, IsTallyOf, digests_in, ids_by}
 use Rattle.bk_order.specs.declared.tally.Tally.{Tally}
 use Rattle.bk_order.specs.private.Tallies.{CountsBatch, CountsVerdict, HasRoom, IsNewBy, IsNewDigest, IsNewId, after_batch, after_broken, after_good, one_if}
 use Rattle.bk_certcheck.proofs.Zips.{zip_length, zip_push}
-use Rattle.bk_order.proofs.Frames.{length_mapped}
 use Rattle.bk_order.proofs.Keeping.{lone, good_certs, certs_good}
 use Rattle.bk_order.proofs.OnceMore.{new_named, once_counts, once_short}
 use Rattle.bk_order.specs.private.Digested.{batch_of}
@@ -295,9 +294,9 @@ tally_has_room k frames t is few =
     let b = batches_few frames in
     let z = zip_length (IsVerdict k) (certificates_in frames) is.verdicts is.are_verdicts in
     let g = good_few is.verdicts in
-    let m = length_mapped (λ (c : Node). c.id) (flat_map certs_by is.verdicts) in
+    let m = length-map (flat_map certs_by is.verdicts) (λ (c : Node). c.id) in
     let o = once_short (ids_by is.verdicts) in
-    let n = length_mapped sha256 (batches_in frames) in
+    let n = length-map (batches_in frames) sha256 in
     let d = once_short (digests_in frames) in
     let ec = is.certs in
     let eg = is.good in

@@ -1,17 +1,15 @@
 -- What frames hold: the certificates that break no rule and the batches, of which only counts what a
 -- list contains, not in which order or how often; and what is rejected, in the order of the frames.
-use Rattle.std.specs.Prelude.{◌≡◌, ℕ, ◌+◌, List, [], ◌∷◌, ◌++◌, Contains, Option, option_map}
+use Rattle.std.specs.Prelude.{◌≡◌, ℕ, ◌+◌, List, [], ◌∷◌, ◌++◌, Contains, Option}
 use Rattle.sha2.specs.Sha256.{sha256}
 use Rattle.bk_base.specs.declared.kind.Kind.{Kind}
 use Rattle.bk_base.specs.declared.kind.Kind.TheVariants as kind
 use Rattle.bk_base.specs.Feed.{Frame, frame_of}
 use Rattle.bk_committee.specs.Payload.{CommitteeValue}
-use Rattle.bk_cert.specs.Identity.{id_of}
 use Rattle.bk_cert.specs.Node.{Node}
-use Rattle.bk_cert.specs.Reading.{certificate_of}
-use Rattle.bk_cert.specs.Values.{CertValue}
 use Rattle.bk_certcheck.specs.declared.verdict.Verdict.{Verdict}
 use Rattle.bk_certcheck.specs.declared.verdict.Verdict.TheVariants as verdict
+pub use Rattle.bk_certcheck.specs.Frames.{id_in}
 use Rattle.bk_certcheck.specs.Verdicts.{IsGood, IsVerdict}
 use Rattle.bk_evidence.specs.Batches.{Batch}
 use Rattle.bk_order.specs.declared.reject.Reject.{Reject}
@@ -49,10 +47,6 @@ abbrev pub certs_by : Verdict → List Node
 certs_by (verdict.Good c) = c ∷ []
 certs_by (verdict.Broken r) = []
 
--- the id of the certificate of these bytes, none where they are no certificate
-abbrev pub id_in : List ℕ → Option (List ℕ)
-id_in payload = option_map (λ (c : CertValue). id_of c.header) (certificate_of payload)
-
 -- what a verdict rejects on the frame with this number, whose certificate has this id
 abbrev pub rejects_by : ℕ → Option (List ℕ) → Verdict → List Reject
 rejects_by number id (verdict.Good c) = []
@@ -62,7 +56,7 @@ rejects_by number id (verdict.Broken r) = record { frame = number; rule = r; id 
 abbrev pub IsRejectOf : CommitteeValue → ℕ → List ℕ → Kind → List Reject → Type 0
 IsRejectOf k number payload kind.Certificate found =
     (v : Verdict) × IsVerdict k payload v
-    × (found ≡ rejects_by number (option_map (λ (c : CertValue). id_of c.header) (certificate_of payload)) v)
+    × (found ≡ rejects_by number (id_in payload) v)
 IsRejectOf k number payload other found = found ≡ []
 
 -- what is rejected of these frames, in their order; the first has this number

@@ -1,5 +1,4 @@
 pub mod Digested
-pub mod Judging
 pub mod Joined
 pub mod Tallies
 pub mod Lesser

@@ -5,7 +5,7 @@ ghost use Rattle.std.specs.Arc.{arc_value};
 ghost use Rattle.bk_frames.specs.Cutting.{frames_in};
 ghost use Rattle.bk_order.specs.private.Ahead.{judged_of};
 
-use crate::judging::{Judged, judge_each};
+use crate::judging::{JudgedFrames, judge_each};
 use bk_base::Kind;
 use bk_committee::Committee;
 use std::alloc::{AllocError, Global};
@@ -32,37 +32,6 @@ impl Promise<Result<JudgedFrames, AllocError>> for FramesOf {
     ghost use Rattle.bk_order.specs.private.Ahead.{judged_of};
 
     ghost kept_by = { λ of r. IfOk r (λ j. j ≡ judged_of of) };
-}
-
-/// Frames that were judged. Contracts see the frames and the committee that they were judged by.
-#[derive(Drop)]
-pub struct JudgedFrames {
-    pub(crate) judged: Vec<Judged>,
-    pub(crate) of: FramesOf,
-}
-
-impl Model for JudgedFrames {
-    ghost use Rattle.std.specs.List.{AllZip};
-    ghost use Rattle.bk_frames.specs.Cutting.{frames_in};
-    ghost use Rattle.bk_order.specs.Ahead.{JudgedValue};
-    ghost use Rattle.bk_order.specs.private.Ahead.{judged_of};
-    ghost use Rattle.bk_order.specs.private.Judging.{IsJudged};
-
-    ghost Value = { JudgedValue };
-
-    ghost view = { λ j. judged_of j.of };
-
-    ghost invariant = { λ j. AllZip (IsJudged j.of.committee.value)
-        (frames_in j.of.frames.value.items) j.judged.items };
-}
-
-impl JudgedFrames {
-    /// How many they are.
-    pub fn len(&self) -> usize
-        ensures { result ≡ length self.now.frames }
-    {
-        self.judged.len()
-    }
 }
 
 // A group that a thread judges, or that was judged because none could be started.
@@ -137,9 +106,7 @@ fn judge_group(
     ensures committee { IfOk result (λ j. j.committee ≡ arc_value committee) }
     ensures frames { IfOk result (λ j. j.frames ≡ frames_in frames.items) }
 {
-    let of = frames_of(&committee, &frames);
-    let judged = judge_each(alloc, &committee, frames)?;
-    Ok(JudgedFrames { judged, of })
+    judge_each(alloc, &committee, frames)
 }
 
 // Starts a thread that judges a group; where none can be started, the group is judged here.

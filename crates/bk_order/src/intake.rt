@@ -11,12 +11,11 @@ ghost use Rattle.bk_order.specs.Intake.{HasAsOrder, HasTaken, IsKeptOf, nothing_
 ghost use Rattle.bk_order.specs.declared.settling.Settled.{Settled};
 ghost use Rattle.bk_order.specs.private.Joined.{GoesOn, IsJoined, IsSettled, kept_in};
 
-use crate::ahead::JudgedFrames;
+use crate::judging::{JudgedFrames, judge_all};
 use crate::reject::Reject;
 use crate::settling::{Settled, settle, unsettled};
 use crate::stop::{Stop, stop_of, stop_of_both};
-use crate::table::{Table, empty_table};
-use crate::taking::{keep_judged, take_all};
+use crate::table::{Table, empty_table, keep_all};
 use crate::tally::Tally;
 use bk_base::Kind;
 use bk_cert::CertRef;
@@ -114,9 +113,8 @@ impl Intake {
         if self.failed {
             return Err(AllocError);
         }
-        self.current = false;
-        match take_all(rt, self.alloc, &self.committee, &mut self.table, frames) {
-            Ok(()) => Ok(()),
+        match judge_all(rt, self.alloc, &self.committee, frames) {
+            Ok(judged) => self.take_judged(judged),
             Err(error) => {
                 self.failed = true;
                 Err(error)
@@ -141,7 +139,7 @@ impl Intake {
             return Err(AllocError);
         }
         self.current = false;
-        match keep_judged(self.alloc, &self.committee, &mut self.table, judged) {
+        match keep_all(self.alloc, &self.committee, &mut self.table, judged) {
             Ok(()) => Ok(()),
             Err(error) => {
                 self.failed = true;

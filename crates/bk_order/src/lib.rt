@@ -15,12 +15,12 @@ mod reject;
 mod settling;
 mod stop;
 mod table;
-mod taking;
 mod tally;
 
-pub use ahead::{Ahead, JudgedFrames};
+pub use ahead::Ahead;
 pub use bk_index::HashKey;
 pub use intake::Intake;
+pub use judging::JudgedFrames;
 pub use laws::{
     frames_are_a_set, frames_have_one_list, frames_have_one_stop, order_of_frames_grows,
     parts_agree,

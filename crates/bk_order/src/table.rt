@@ -1,9 +1,9 @@
 //! What is held of the frames, and the certificates of it by round.
 
-ghost use Rattle.std.specs.Prelude.{◌≡◌, ◌++◌, ◌∷◌, ℕ, ◌+◌, ◌<◌, ◌^◌, [], List, OnOk, IfOk, length, true};
-ghost use Rattle.std.specs.List.{AllZip};
+ghost use Rattle.std.specs.Prelude.{◌≡◌, ◌++◌, ◌∷◌, ◌+◌, ◌<◌, ◌^◌, [], List, ℕ, OnOk, IfOk, length};
 ghost use Rattle.bk_committee.specs.Payload.{sizes_of};
-ghost use Rattle.bk_base.specs.Feed.{Frame};
+ghost use Rattle.bk_base.specs.Feed.{Frame, frame_of};
+ghost use Rattle.bk_certcheck.specs.Frames.{IsFound};
 ghost use Rattle.bk_certcheck.specs.Verdicts.{IsGood};
 ghost use Rattle.bk_certcheck.specs.declared.verdict.Verdict.TheVariants as verdict;
 ghost use Rattle.bk_rounds.specs.Rounds.{rounds_with};
@@ -12,15 +12,15 @@ ghost use Rattle.bk_evidence.specs.Laws.{HaveSame};
 ghost use Rattle.bk_evidence.specs.Batches.{batch_with};
 ghost use Rattle.bk_order.specs.Frames.{rejects_by};
 ghost use Rattle.bk_order.specs.Intake.{IsKeptOf, first_later_frame};
-ghost use Rattle.bk_order.specs.private.Judging.{IsJudged};
 ghost use Rattle.bk_order.specs.private.Tallies.{CountsVerdict, IsNewDigest, IsNewId};
-ghost use Rattle.bk_order.specs.private.Joined.{CanKeep, GoesOn, HasKept, IsJoined, kept_in};
+ghost use Rattle.bk_order.specs.private.Joined.{GoesOn, IsJoined, kept_in};
 
-use crate::judging::{Digested, Judged};
+use crate::judging::JudgedFrames;
 use crate::reject::Reject;
 use crate::tally::Tally;
+use bk_base::Kind;
 use bk_cert::SharedCert;
-use bk_certcheck::{Checked, Rule};
+use bk_certcheck::{Checked, Found, Rule};
 use bk_committee::Committee;
 use bk_digest::Digest32;
 use bk_evidence::{BatchOffer, Batches, Held, Offer};
@@ -133,60 +133,77 @@ fn keep_broken(table: &mut Table, rule: Rule, id: Option<Digest32>) -> Result<()
 }
 
 // Keeps a batch. Returns whether its digest is new.
-fn keep_batch(batches: &mut Batches, one: Digested) -> Result<bool, AllocError>
-    ensures new { IfOk result (IsNewDigest batches.old one.digest) }
+fn keep_batch(batches: &mut Batches, digest: Digest32, payload: Vec<u8>) -> Result<bool, AllocError>
+    ensures new { IfOk result (IsNewDigest batches.old digest) }
     ensures same { OnOk result (HaveSame batches.new
-        (batches.old ++ batch_with one.digest one.payload.items ∷ [])) }
+        (batches.old ++ batch_with digest payload.items ∷ [])) }
     ensures begins { OnOk result (IsPrefix batches.old batches.new) }
 {
-    match batches.offer(one.digest, one.payload)? {
+    match batches.offer(digest, payload)? {
         BatchOffer::New => Ok(true),
         BatchOffer::Repeat | BatchOffer::Collision => Ok(false),
     }
 }
 
-// Keeps what a frame is found to be.
+// Keeps a frame as it was found to be.
 fn keep(
     alloc: Global,
     committee: &Committee,
     table: &mut Table,
-    one: Judged,
+    frame: (Kind, Vec<u8>),
+    found: Found,
 ) -> Result<(), AllocError>
     requires joined { IsJoined committee.now table.old.held table.old.rounds }
-    requires judged { (f : Frame) × IsJudged committee.now f one }
+    requires found { IsFound committee.now (frame_of frame.0 frame.1.items) found }
     requires room { table.old.next + 1 < 2 ^ 64 }
     ensures joined { OnOk result (IsJoined committee.now table.new.held table.new.rounds) }
     ensures goes_on { OnOk result (GoesOn table.old table.new) }
     ensures next { OnOk result (table.new.next ≡ table.old.next + 1) }
-    ensures kept { OnOk result ((f : Frame) (before : List Frame)
-        → IsJudged committee.now f one → IsKeptOf committee.now before (kept_in table.old)
-        → IsKeptOf committee.now (before ++ f ∷ []) (kept_in table.new)) }
+    ensures kept { OnOk result ((before : List Frame)
+        → IsKeptOf committee.now before (kept_in table.old)
+        → IsKeptOf committee.now (before ++ frame_of frame.0 frame.1.items ∷ [])
+        (kept_in table.new)) }
 {
-    match one {
-        Judged::Good(good) => keep_good(alloc, committee, table, good)?,
-        Judged::Broken(rule, id) => keep_broken(table, rule, id)?,
-        Judged::Batch(batch) => {
-            let new = keep_batch(&mut table.batches, batch)?;
+    match found {
+        Found::Good(good) => keep_good(alloc, committee, table, good)?,
+        Found::Broken(rule, id) => keep_broken(table, rule, id)?,
+        Found::Batch(digest) => {
+            let new = keep_batch(&mut table.batches, digest, frame.1)?;
             table.tally = table.tally.with_batch(new);
         }
-        Judged::Other => {}
+        Found::Other => {}
     }
     table.next += 1;
     Ok(())
 }
 
-/// Keeps what each of the frames is found to be.
+/// Keeps the frames as they were judged.
 pub(crate) fn keep_all(
     alloc: Global,
     committee: &Committee,
     table: &mut Table,
-    judged: Vec<Judged>,
+    judged: JudgedFrames,
 ) -> Result<(), AllocError>
-    requires { CanKeep committee.now table.old judged.items }
-    ensures { OnOk result (HasKept committee.now table.old table.new judged.items) }
+    requires mine { judged.committee ≡ committee.now }
+    requires joined { IsJoined committee.now table.old.held table.old.rounds }
+    requires room { table.old.next + length judged.frames < 2 ^ 64 }
+    ensures joined { OnOk result (IsJoined committee.now table.new.held table.new.rounds) }
+    ensures goes_on { OnOk result (GoesOn table.old table.new) }
+    ensures kept { OnOk result ((before : List Frame)
+        → IsKeptOf committee.now before (kept_in table.old)
+        → IsKeptOf committee.now (before ++ judged.frames) (kept_in table.new)) }
 {
-    for one in judged {
-        keep(alloc, committee, table, one)?;
+    let JudgedFrames {
+        committee: _,
+        frames,
+        found,
+    } = judged;
+    let mut left = found.into_iter();
+    for frame in frames {
+        let Some(one) = left.next() else {
+            unreachable!();
+        };
+        keep(alloc, committee, table, frame, one)?;
     }
     Ok(())
 }

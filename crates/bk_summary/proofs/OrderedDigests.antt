@@ -4,6 +4,7 @@ use Rattle.std.specs.Prelude.{option_map}
 use Rattle.std.specs.Str.{bytes_eq}
 use Rattle.std.specs.List.{Contains, find, list_any}
 use Rattle.std.proofs.lemmas.Slice.Eq.{bytes_eq-Decides}
+use Rattle.std.proofs.lemmas.List.{length-map}
 use Rattle.sha2.specs.Sha256.{sha256}
 use Rattle.bk_base.specs.Feed.{Frame}
 use Rattle.bk_cert.proofs.Lists.{none_in_nil, contains_cases, contains_first, contains_later, in_map}
@@ -14,7 +15,6 @@ use Rattle.bk_certcheck.specs.Frames.{batches_in}
 use Rattle.bk_order.specs.Frames.{AreBatches}
 use Rattle.bk_order.specs.Orders.{Ordered, IsOrderOf}
 use Rattle.bk_order.specs.Tally.{digests_in}
-use Rattle.bk_order.proofs.Frames.{length_mapped}
 use Rattle.bk_order.proofs.OnceMore.{any_once, one_found}
 use Rattle.bk_order.proofs.Tallying.{batch_listed}
 use Rattle.bk_summary.specs.Summary.{ordered_digests, unordered_digests}
@@ -86,5 +86,5 @@ unordered_counts k frames o is =
     λ y c. any_once y (digests_in frames)
     ∙ one_found y (digests_in frames) (within frames is.batches is.are_batches ds y (subst (λ (ps : List (List ℕ)). Contains (map sha256 ps) y) list_is c)) in
     let n = outside_counts (ordered_digests o) (once (digests_in frames)) ordered_once (once_are_once (digests_in frames)) inside in
-    let m = length_mapped sha256 o.payloads.list in
+    let m = length-map o.payloads.list sha256 in
     omega (arith, n, m)

@@ -1,7 +1,7 @@
 -- The summary of what was made of a feed is that of the feed.
 use Rattle.std.proofs.Common.{◌≡◌, ℕ, suc, ◌+◌, ◌-◌, ◌^◌, ◌<◌, ◌≤◌, Bool, true, false, cond, List, [], ◌∷◌, length, drop, map, Option, refl, sym, ap, subst, ◌∙◌, arith}
 use Rattle.std.specs.Prelude.{count_by, filter, is_some, not}
-use Rattle.std.proofs.lemmas.List.{length-drop}
+use Rattle.std.proofs.lemmas.List.{length-drop, length-map}
 use Rattle.std.proofs.lemmas.List.Sums.{length-filter}
 use Rattle.bk_base.specs.declared.genesis.Row.{Row}
 use Rattle.bk_base.specs.Feed.{Frame, FeedValue, IsFeed}
@@ -31,7 +31,6 @@ use Rattle.bk_summary.specs.declared.summary.BatchCounts.{BatchCounts}
 use Rattle.bk_summary.specs.declared.summary.CertCounts.{CertCounts}
 use Rattle.bk_summary.specs.declared.summary.Summary.{Summary}
 use Rattle.bk_summary.specs.private.Sums.{CountsAnchors, Sums, batches_of, certs_of, void_in}
-use Rattle.bk_order.proofs.Frames.{length_mapped}
 use Rattle.bk_summary.proofs.OrderedDigests.{unordered_counts}
 
 -- a batch is void where its count is none
@@ -102,11 +101,11 @@ module _ (feed : FeedValue) (x : ClosedValue) (rounds : RoundsValue) (waiting : 
   batches_are : (c : BatchCounts) → c ≡ batches_of taken.kept.tally x.ledger.counts → c ≡ batch_counts (later_frames feed) taken.ordered
   batches_are c e =
       let counts : x.ledger.counts ≡ map count_in taken.ordered.payloads.list = closed.executed.counts in
-      let ordered : length x.ledger.counts ≡ length taken.ordered.payloads.list = ap length counts ∙ length_mapped count_in taken.ordered.payloads.list in
+      let ordered : length x.ledger.counts ≡ length taken.ordered.payloads.list = ap length counts ∙ length-map taken.ordered.payloads.list count_in in
       let void : void_in x.ledger.counts ≡ count_by is_void taken.ordered.payloads.list = ap void_in counts ∙ void_counted taken.ordered.payloads.list in
       let lacks : length (unordered_digests taken.ordered (later_frames feed)) ≡ taken.kept.tally.digests - length x.ledger.counts =
       unordered_counts (committee_in feed) (later_frames feed) taken.ordered closed.order.ordered ∙ (λ i. sym tally.digests i - sym ordered i) in
-      let all : taken.kept.tally.batches ≡ length (digests_in (later_frames feed)) = tally.batches ∙ sym (length_mapped sha256 _) in
+      let all : taken.kept.tally.batches ≡ length (digests_in (later_frames feed)) = tally.batches ∙ sym (length-map _ sha256) in
       e ∙ (λ i. record {
         all = tally.batches i;
         repeated = all i - tally.digests i;

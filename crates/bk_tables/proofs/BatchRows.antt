@@ -2,7 +2,7 @@
 use Rattle.std.proofs.Common.{◌≡◌, ℕ, zero, suc, ◌+◌, ◌≤◌, List, [], ◌∷◌, ◌++◌, length, map, take, Some, refl, sym, ap, subst, ◌∙◌, arith, length-append}
 use Rattle.std.specs.Prelude.{fold, reverse, slice_get}
 use Rattle.std.specs.List.{AllZip, Contains, find, flat_map}
-use Rattle.std.proofs.lemmas.List.{take_all}
+use Rattle.std.proofs.lemmas.List.{length-map, take_all}
 use Rattle.sha2.specs.Sha256.{sha256}
 use Rattle.bk_cert.specs.declared.place.CertRef.{CertRef}
 use Rattle.bk_cert.proofs.Lists.{contains_first, contains_later, in_map}
@@ -11,7 +11,6 @@ use Rattle.bk_flatten.specs.Batches.{once}
 use Rattle.bk_flatten.specs.Batches as flatten
 use Rattle.bk_flatten.proofs.Orders.{one_order, order_present}
 use Rattle.bk_order.specs.Orders.{Ordered}
-use Rattle.bk_order.proofs.Frames.{length_mapped}
 use Rattle.bk_rounds.specs.Admission.{IsPresent}
 use Rattle.bk_rounds.specs.Rounds.{RoundsValue}
 use Rattle.bk_tables.specs.Batches.{IsBatchRow, IsOrderedIn, names}
@@ -83,8 +82,8 @@ module _ (rounds : RoundsValue) (o : Ordered) (placed : List Placed) (named : Li
   pub many_named : length o.payloads.list ≤ length named
   many_named =
       let n = ap length digests_are in
-      let a = length_mapped sha256 o.payloads.list in
-      let b = length_mapped (λ (m : Named). m.digest) named in
+      let a = length-map o.payloads.list sha256 in
+      let b = length-map named (λ (m : Named). m.digest) in
       let c = length-append (map sha256 o.payloads.list) taken.rest in
       omega (arith, n, a, b, c)
 

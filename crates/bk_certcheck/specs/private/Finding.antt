@@ -7,8 +7,9 @@ use Rattle.bk_base.specs.declared.kind.Kind.TheVariants as kind
 use Rattle.bk_base.specs.Feed.{Frame}
 use Rattle.bk_committee.specs.Payload.{CommitteeValue}
 use Rattle.bk_certcheck.specs.declared.verdict.Verdict.{Verdict}
+use Rattle.bk_certcheck.specs.declared.verdict.Verdict.TheVariants as verdict
 use Rattle.bk_certcheck.specs.Verdicts.{IsVerdict}
-use Rattle.bk_certcheck.specs.Frames.{IsFound, certificates_in, batches_in}
+use Rattle.bk_certcheck.specs.Frames.{IsFound, certificates_in, batches_in, id_in}
 use Rattle.bk_certcheck.specs.declared.finding.Found.{Found}
 use Rattle.bk_certcheck.specs.declared.finding.Found.TheVariants as found
 
@@ -19,13 +20,18 @@ CanTakeNext kind.Genesis verdicts digests = Unit {0}
 CanTakeNext kind.Certificate verdicts digests = verdicts ≢ []
 CanTakeNext kind.Batch verdicts digests = digests ≢ []
 
--- what is found of a frame of this kind is the next of its verdicts or its digests, and the others are left
-abbrev pub TakesNext : Kind → List Verdict → List Verdict → List (List ℕ) → List (List ℕ) → Found → Type 0
-TakesNext kind.Committee vs vs' ds ds' one = (vs' ≡ vs) × (ds' ≡ ds) × (one ≡ found.Other)
-TakesNext kind.Genesis vs vs' ds ds' one = (vs' ≡ vs) × (ds' ≡ ds) × (one ≡ found.Other)
-TakesNext kind.Certificate vs vs' ds ds' one =
-    (v : Verdict) × (vs ≡ v ∷ vs') × (ds' ≡ ds) × (one ≡ found.Certificate v)
-TakesNext kind.Batch vs vs' ds ds' one =
+-- what is found of a certificate with these bytes, by the verdict on them
+abbrev pub found_by : List ℕ → Verdict → Found
+found_by payload (verdict.Good c) = found.Good c
+found_by payload (verdict.Broken r) = found.Broken r (id_in payload)
+
+-- what is found of a frame of this kind and payload is by the next of its verdicts or its digests, and the others are left
+abbrev pub TakesNext : Kind → List ℕ → List Verdict → List Verdict → List (List ℕ) → List (List ℕ) → Found → Type 0
+TakesNext kind.Committee payload vs vs' ds ds' one = (vs' ≡ vs) × (ds' ≡ ds) × (one ≡ found.Other)
+TakesNext kind.Genesis payload vs vs' ds ds' one = (vs' ≡ vs) × (ds' ≡ ds) × (one ≡ found.Other)
+TakesNext kind.Certificate payload vs vs' ds ds' one =
+    (v : Verdict) × (vs ≡ v ∷ vs') × (ds' ≡ ds) × (one ≡ found_by payload v)
+TakesNext kind.Batch payload vs vs' ds ds' one =
     (d : List ℕ) × (vs' ≡ vs) × (ds ≡ d ∷ ds') × (one ≡ found.Batch d)
 
 -- the first of the frames are found to be this, from the first of the verdicts and the digests, and the others are left

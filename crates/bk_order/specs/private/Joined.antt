@@ -15,8 +15,8 @@ use Rattle.bk_order.specs.declared.table.Table.{Table}
 use Rattle.bk_order.specs.declared.settling.Settled.{Settled}
 use Rattle.std.specs.List.{AllZip}
 use Rattle.bk_base.specs.Feed.{Frame}
-use Rattle.bk_order.specs.declared.judging.Judged.{Judged}
-use Rattle.bk_order.specs.private.Judging.{IsJudged}
+use Rattle.bk_certcheck.specs.declared.finding.Found.{Found}
+use Rattle.bk_certcheck.specs.Frames.{IsFound}
 use Rattle.bk_order.specs.Intake.{Kept, IsKeptOf}
 use Rattle.bk_order.specs.Orders.{Ordered, ordered_with}
 
@@ -71,38 +71,12 @@ pub record IsSettling (z : Sizes) (held : List Node) (batches : List Batch) (old
   pub named : s.list.digests ≡ digests_of held s.flat
   pub found : AreFound batches s.list.digests s.list.found
 
--- the frames are kept but for these, which are left
-pub record IsKeeping (k : CommitteeValue) (start table : Table) (all left : List Judged) : Type 0 where
+-- of all frames these are left, with what was found of them; those before them are kept
+pub record IsKeeping (k : CommitteeValue) (start table : Table) (all left : List Frame) (found : List Found) : Type 0 where
   pub joined : IsJoined k table.held table.rounds
   pub goes_on : GoesOn start table
   pub room : table.next + length left < 2 ^ 64
-  pub next : table.next + length left ≡ start.next + length all
-  pub judged : (frames : List Frame) × AllZip (IsJudged k) frames left
-  pub kept : (frames before : List Frame) → AllZip (IsJudged k) frames all
-      → IsKeptOf k before (kept_in start)
-      → (done : List Frame) × (rest : List Frame) × (frames ≡ done ++ rest)
-      × AllZip (IsJudged k) rest left × IsKeptOf k (before ++ done) (kept_in table)
-
--- what is judged can be kept
-pub record CanKeep (k : CommitteeValue) (table : Table) (judged : List Judged) : Type 0 where
-  pub joined : IsJoined k table.held table.rounds
-  pub are_judged : (frames : List Frame) × AllZip (IsJudged k) frames judged
-  pub room : table.next + length judged < 2 ^ 64
-
--- what was judged is kept
-pub record HasKept (k : CommitteeValue) (old new : Table) (judged : List Judged) : Type 0 where
-  pub joined : IsJoined k new.held new.rounds
-  pub goes_on : GoesOn old new
-  pub next : new.next ≡ old.next + length judged
-  pub kept : (frames before : List Frame) → AllZip (IsJudged k) frames judged
-      → IsKeptOf k before (kept_in old) → IsKeptOf k (before ++ frames) (kept_in new)
-
--- of all frames these are left; those before them were judged last, and all earlier ones are kept
-pub record IsTaking (k : CommitteeValue) (start table : Table) (all left : List Frame)
-    (judged : List Judged) : Type 0 where
-  pub joined : IsJoined k table.held table.rounds
-  pub goes_on : GoesOn start table
-  pub room : table.next + length judged + length left < 2 ^ 64
-  pub is_split : (done : List Frame) × (now : List Frame) × (all ≡ done ++ (now ++ left))
-      × AllZip (IsJudged k) now judged
-      × ((before : List Frame) → IsKeptOf k before (kept_in start) → IsKeptOf k (before ++ done) (kept_in table))
+  pub is_found : AllZip (IsFound k) left found
+  pub done : List Frame
+  pub split : all ≡ done ++ left
+  pub kept : (before : List Frame) → IsKeptOf k before (kept_in start) → IsKeptOf k (before ++ done) (kept_in table)

@@ -5,21 +5,21 @@ use Rattle.bk_order.proofs.Tables.{batch_begins, batch_is_new, batch_same, is_fr
 use Rattle.bk_order.proofs.table.keep_batch.Goals as goal
 
 pub returns-in-New-clause-new : goal.returns-in-New-clause-new
-returns-in-New-clause-new c = subst (IsNewDigest c.args.batches.now c.args.one.digest) (ap is_fresh_batch c.in-New.is)
-    (batch_is_new c.args.batches.now (batch_with c.args.one.digest c.args.one.payload.items) c.in_ok-offer.field-0 c.in_ok-offer.ensures.answer)
+returns-in-New-clause-new c = subst (IsNewDigest c.args.batches.now c.args.digest) (ap is_fresh_batch c.in-New.is)
+    (batch_is_new c.args.batches.now (batch_with c.args.digest c.args.payload.items) c.in_ok-offer.field-0 c.in_ok-offer.ensures.answer)
 
 pub returns-in-New-clause-same : goal.returns-in-New-clause-same
-returns-in-New-clause-same c = batch_same c.args.batches.now c.offer.new.self (batch_with c.args.one.digest c.args.one.payload.items) c.in_ok-offer.field-0 c.in_ok-offer.ensures.answer c.in_ok-offer.ensures.stored
+returns-in-New-clause-same c = batch_same c.args.batches.now c.offer.new.self (batch_with c.args.digest c.args.payload.items) c.in_ok-offer.field-0 c.in_ok-offer.ensures.answer c.in_ok-offer.ensures.stored
 
 pub returns-in-New-clause-begins : goal.returns-in-New-clause-begins
-returns-in-New-clause-begins c = batch_begins c.args.batches.now c.offer.new.self (batch_with c.args.one.digest c.args.one.payload.items) c.in_ok-offer.field-0 c.in_ok-offer.ensures.stored
+returns-in-New-clause-begins c = batch_begins c.args.batches.now c.offer.new.self (batch_with c.args.digest c.args.payload.items) c.in_ok-offer.field-0 c.in_ok-offer.ensures.stored
 
 pub returns-in-Repeat-clause-new : goal.returns-in-Repeat-clause-new
-returns-in-Repeat-clause-new c = subst (IsNewDigest c.args.batches.now c.args.one.digest) (⊎_elim (λ q. ap is_fresh_batch q) (λ q. ap is_fresh_batch q) c.in-Repeat.is)
-    (batch_is_new c.args.batches.now (batch_with c.args.one.digest c.args.one.payload.items) c.in_ok-offer.field-0 c.in_ok-offer.ensures.answer)
+returns-in-Repeat-clause-new c = subst (IsNewDigest c.args.batches.now c.args.digest) (⊎_elim (λ q. ap is_fresh_batch q) (λ q. ap is_fresh_batch q) c.in-Repeat.is)
+    (batch_is_new c.args.batches.now (batch_with c.args.digest c.args.payload.items) c.in_ok-offer.field-0 c.in_ok-offer.ensures.answer)
 
 pub returns-in-Repeat-clause-same : goal.returns-in-Repeat-clause-same
-returns-in-Repeat-clause-same c = batch_same c.args.batches.now c.offer.new.self (batch_with c.args.one.digest c.args.one.payload.items) c.in_ok-offer.field-0 c.in_ok-offer.ensures.answer c.in_ok-offer.ensures.stored
+returns-in-Repeat-clause-same c = batch_same c.args.batches.now c.offer.new.self (batch_with c.args.digest c.args.payload.items) c.in_ok-offer.field-0 c.in_ok-offer.ensures.answer c.in_ok-offer.ensures.stored
 
 pub returns-in-Repeat-clause-begins : goal.returns-in-Repeat-clause-begins
-returns-in-Repeat-clause-begins c = batch_begins c.args.batches.now c.offer.new.self (batch_with c.args.one.digest c.args.one.payload.items) c.in_ok-offer.field-0 c.in_ok-offer.ensures.stored
+returns-in-Repeat-clause-begins c = batch_begins c.args.batches.now c.offer.new.self (batch_with c.args.digest c.args.payload.items) c.in_ok-offer.field-0 c.in_ok-offer.ensures.stored
