@@ -4,6 +4,7 @@ use Rattle.std.specs.List.{AllZip, flat_map}
 use Rattle.std.specs.Global.{Vec}
 use Rattle.std.proofs.lemmas.List.{take_all, at_drop_more}
 use Rattle.std.proofs.lemmas.List.Folds.{flat_map-map}
+use Rattle.std.proofs.lemmas.Slice.Zip.{all_zipped_more}
 use Rattle.sha2.specs.Sha256.{sha256}
 use Rattle.bk_base.specs.declared.kind.Kind.{Kind}
 use Rattle.bk_base.specs.declared.kind.Kind.TheVariants as kind
@@ -16,7 +17,6 @@ use Rattle.bk_certcheck.specs.Verdicts.{IsVerdict}
 use Rattle.bk_certcheck.specs.declared.finding.Found.{Found}
 use Rattle.bk_certcheck.specs.Frames.{IsFound, certificate_in, batch_in, certificates_in, batches_in}
 use Rattle.bk_certcheck.specs.private.Finding.{CanTakeNext, TakesNext, IsPutting, found_by}
-use Rattle.bk_certcheck.proofs.Zips.{zip_push}
 
 -- the payloads of frames, from the frames as they are held
 pub certificates_flat : (xs : List (Kind × Vec ℕ)) → flat_map (λ (x : Kind × Vec ℕ). certificate_in x.0 x.1.items) xs ≡ certificates_in (frames_in xs)
@@ -31,62 +31,32 @@ pub front_at : (xs : List (Kind × Vec ℕ)) (i : ℕ) (x : Kind × Vec ℕ) →
 front_at xs i x low is =
     at_drop_more frames_in xs i x low ∙ ap (λ (y : Kind × Vec ℕ). frame_of y.0 y.1.items ∷ frames_in (drop (i + 1) xs)) (sym is)
 
-heads : {X : Type 0} (x y : X) (xs ys : List X) → x ∷ xs ≡ y ∷ ys → x ≡ y
-heads {X = X} x y xs ys e = ap (λ (l : List X). get_or l 0 x) e
-
-tails : {X : Type 0} (x y : X) (xs ys : List X) → x ∷ xs ≡ y ∷ ys → xs ≡ ys
-tails {X = X} x y xs ys e = ap (λ (l : List X). drop 1 l) e
-
 -- where a frame is left, so is what is found of it
-pub can_take : (all rest : List Frame) (of : Kind) (payload : List ℕ) (vs left : List Verdict) (ds : List (List ℕ)) (out : List Found)
-    → IsPutting all (frame_of of payload ∷ rest) vs left ds out → CanTakeNext of left ds
-can_take all rest kind.Committee payload vs left ds out j = tt
-can_take all rest kind.Genesis payload vs left ds out j = tt
-can_take all rest kind.Certificate payload vs left ds out j = λ none. let a = j.counted in let b = ap (λ (l : List Verdict). length l) none in omega (arith, a, b)
-can_take all rest kind.Batch payload vs left ds out j = λ none. let a = ap (λ (l : List (List ℕ)). length l) (sym none ∙ j.hashed) in omega (arith, a)
-
--- one frame more is found
-found_on : (k : CommitteeValue) (all rest done : List Frame) (f : Frame) (left : List Verdict) (out : List Found) (one : Found) → all ≡ done ++ f ∷ rest
-    → AllZip (IsVerdict k) (certificates_in rest) left → AllZip (IsFound k) done out → IsFound k f one
-    → (now : List Frame) × (all ≡ now ++ rest) × AllZip (IsVerdict k) (certificates_in rest) left × AllZip (IsFound k) now (out ++ one ∷ [])
-found_on k all rest done f left out one split verdicts found here =
-    (done ++ f ∷ [], split ∙ sym (append_assoc done (f ∷ []) rest), verdicts, zip_push (IsFound k) done out f one found here)
+pub can_take : (k : CommitteeValue) (all rest : List Frame) (of : Kind) (payload : List ℕ) (vs : List Verdict) (ds : List (List ℕ)) (out : List Found)
+    → IsPutting k all (frame_of of payload ∷ rest) vs ds out → CanTakeNext of vs ds
+can_take k all rest kind.Committee payload vs ds out j = tt
+can_take k all rest kind.Genesis payload vs ds out j = tt
+can_take k all rest kind.Certificate payload vs ds out j = λ none. subst (AllZip (IsVerdict k) (payload ∷ certificates_in rest)) none j.judged
+can_take k all rest kind.Batch payload vs ds out j = λ none. let a = ap (λ (l : List (List ℕ)). length l) (sym none ∙ j.hashed) in omega (arith, a)
 
 by_verdict : (k : CommitteeValue) (payload : List ℕ) (v : Verdict) → IsVerdict k payload v → IsFound k (frame_of kind.Certificate payload) (found_by payload v)
 by_verdict k payload (verdict.Good c) h = (refl, h)
 by_verdict k payload (verdict.Broken r) h = (refl, h, refl)
 
-pub putting_on : (all rest : List Frame) (of : Kind) (payload : List ℕ) (vs left left' : List Verdict) (ds ds' : List (List ℕ)) (out : List Found) (one : Found)
-    → IsPutting all (frame_of of payload ∷ rest) vs left ds out → TakesNext of payload left left' ds ds' one → IsPutting all rest vs left' ds' (out ++ one ∷ [])
-putting_on all rest kind.Committee payload vs left left' ds ds' out one j (e, d, is) = record {
-  counted = ap (λ (l : List Verdict). length l) e ∙ j.counted;
-  hashed = d ∙ j.hashed;
-  is_found = λ k h. let p = j.is_found k h in
-      found_on k all rest p.0 (frame_of kind.Committee payload) left' out one p.1 (subst (AllZip (IsVerdict k) (certificates_in rest)) (sym e) p.2) p.3
-      (subst (IsFound k (frame_of kind.Committee payload)) (sym is) tt);
-}
-putting_on all rest kind.Genesis payload vs left left' ds ds' out one j (e, d, is) = record {
-  counted = ap (λ (l : List Verdict). length l) e ∙ j.counted;
-  hashed = d ∙ j.hashed;
-  is_found = λ k h. let p = j.is_found k h in
-      found_on k all rest p.0 (frame_of kind.Genesis payload) left' out one p.1 (subst (AllZip (IsVerdict k) (certificates_in rest)) (sym e) p.2) p.3
-      (subst (IsFound k (frame_of kind.Genesis payload)) (sym is) tt);
-}
-putting_on all rest kind.Certificate payload vs left left' ds ds' out one j (v, e, d, is) = record {
-  counted = let a = j.counted in let b = ap (λ (l : List Verdict). length l) e in omega (arith, a, b);
-  hashed = d ∙ j.hashed;
-  is_found = λ k h. let p = j.is_found k h in
-      let z : AllZip (IsVerdict k) (payload ∷ certificates_in rest) (v ∷ left') = subst (AllZip (IsVerdict k) (payload ∷ certificates_in rest)) e p.2 in
-      found_on k all rest p.0 (frame_of kind.Certificate payload) left' out one p.1 z.1 p.3
-      (subst (IsFound k (frame_of kind.Certificate payload)) (sym is) (by_verdict k payload v z.0));
-}
-putting_on all rest kind.Batch payload vs left left' ds ds' out one j (x, e, d, is) = record {
-  counted = ap (λ (l : List Verdict). length l) e ∙ j.counted;
-  hashed = tails x (sha256 payload) ds' (map sha256 (batches_in rest)) (sym d ∙ j.hashed);
-  is_found = λ k h. let p = j.is_found k h in
-      found_on k all rest p.0 (frame_of kind.Batch payload) left' out one p.1 (subst (AllZip (IsVerdict k) (certificates_in rest)) (sym e) p.2) p.3
-      (subst (IsFound k (frame_of kind.Batch payload)) (sym is) (refl, heads x (sha256 payload) ds' (map sha256 (batches_in rest)) (sym d ∙ j.hashed)));
-}
+-- what is taken for a frame is what is found of it, and the others are left for the frames after it
+taken : (k : CommitteeValue) (rest : List Frame) (of : Kind) (payload : List ℕ) (vs vs' : List Verdict) (ds ds' : List (List ℕ)) (one : Found)
+    → AllZip (IsVerdict k) (certificates_in (frame_of of payload ∷ rest)) vs → ds ≡ map sha256 (batches_in (frame_of of payload ∷ rest)) → TakesNext of payload vs vs' ds ds' one
+    → IsFound k (frame_of of payload) one × AllZip (IsVerdict k) (certificates_in rest) vs' × (ds' ≡ map sha256 (batches_in rest))
+taken k rest kind.Committee payload vs vs' ds ds' one judged hashed (e, d, is) =
+    (subst (IsFound k (frame_of kind.Committee payload)) (sym is) tt, subst (AllZip (IsVerdict k) (certificates_in rest)) (sym e) judged, d ∙ hashed)
+taken k rest kind.Genesis payload vs vs' ds ds' one judged hashed (e, d, is) =
+    (subst (IsFound k (frame_of kind.Genesis payload)) (sym is) tt, subst (AllZip (IsVerdict k) (certificates_in rest)) (sym e) judged, d ∙ hashed)
+taken k rest kind.Certificate payload vs vs' ds ds' one judged hashed (v, e, d, is) =
+    let z : AllZip (IsVerdict k) (payload ∷ certificates_in rest) (v ∷ vs') = subst (AllZip (IsVerdict k) (payload ∷ certificates_in rest)) e judged in
+    (subst (IsFound k (frame_of kind.Certificate payload)) (sym is) (by_verdict k payload v z.0), z.1, d ∙ hashed)
+taken k rest kind.Batch payload vs vs' ds ds' one judged hashed (x, e, d, is) =
+    let both : x ∷ ds' ≡ sha256 payload ∷ map sha256 (batches_in rest) = sym d ∙ hashed in
+    (subst (IsFound k (frame_of kind.Batch payload)) (sym is) (refl, ap (λ (l : List (List ℕ)). get_or l 0 x) both), subst (AllZip (IsVerdict k) (certificates_in rest)) (sym e) judged, ap (λ (l : List (List ℕ)). drop 1 l) both)
 
 -- the verdicts on payloads are those on the lists that they show
 pub shown_verdicts : {P : Type 0} (k : CommitteeValue) (show : P → List ℕ) (ps : List P) (vs : List Verdict) → AllZip (λ p v. IsVerdict k (show p) v) ps vs → AllZip (IsVerdict k) (map show ps) vs
@@ -103,20 +73,25 @@ pub flat_whole : {X Y : Type 0} (f : X → List Y) (xs : List X) (i : ℕ) → l
 flat_whole {X = X} f xs i low = ap (λ (ys : List X). flat_map f ys) (take_all i xs low)
 
 -- the same of the frame at a place
-pub can_take_at : (xs : List (Kind × Vec ℕ)) (i : ℕ) (x : Kind × Vec ℕ) → i < length xs → x ≡ get_or xs i x → (vs left : List Verdict) (ds : List (List ℕ)) (out : List Found)
-    → IsPutting (frames_in xs) (frames_in (drop i xs)) vs left ds out → CanTakeNext x.0 left ds
-can_take_at xs i x low is vs left ds out j =
-    can_take (frames_in xs) (frames_in (drop (i + 1) xs)) x.0 x.1.items vs left ds out
-    (subst (λ (fs : List Frame). IsPutting (frames_in xs) fs vs left ds out) (front_at xs i x low is) j)
+pub can_take_at : (k : CommitteeValue) (xs : List (Kind × Vec ℕ)) (i : ℕ) (x : Kind × Vec ℕ) (vs : List Verdict) (ds : List (List ℕ)) (out : List Found) → i < length xs → x ≡ get_or xs i x
+    → IsPutting k (frames_in xs) (frames_in (drop i xs)) vs ds out → CanTakeNext x.0 vs ds
+can_take_at k xs i x vs ds out low is j =
+    can_take k (frames_in xs) (frames_in (drop (i + 1) xs)) x.0 x.1.items vs ds out (subst (λ (fs : List Frame). IsPutting k (frames_in xs) fs vs ds out) (front_at xs i x low is) j)
 
-pub putting_at : (xs : List (Kind × Vec ℕ)) (i : ℕ) (x : Kind × Vec ℕ) → i < length xs → x ≡ get_or xs i x
-    → (vs left left' : List Verdict) (ds ds' : List (List ℕ)) (out new : List Found) (one : Found)
-    → IsPutting (frames_in xs) (frames_in (drop i xs)) vs left ds out → TakesNext x.0 x.1.items left left' ds ds' one → new ≡ out ++ one ∷ []
-    → IsPutting (frames_in xs) (frames_in (drop (i + 1) xs)) vs left' ds' new
-putting_at xs i x low is vs left left' ds ds' out new one j taken pushed =
-    subst (λ (o : List Found). IsPutting (frames_in xs) (frames_in (drop (i + 1) xs)) vs left' ds' o) (sym pushed)
-    (putting_on (frames_in xs) (frames_in (drop (i + 1) xs)) x.0 x.1.items vs left left' ds ds' out one
-    (subst (λ (fs : List Frame). IsPutting (frames_in xs) fs vs left ds out) (front_at xs i x low is) j) taken)
+pub putting_at : (k : CommitteeValue) (xs : List (Kind × Vec ℕ)) (i : ℕ) (x : Kind × Vec ℕ) (vs vs' : List Verdict) (ds ds' : List (List ℕ)) (out new : List Found) (one : Found) → i < length xs → x ≡ get_or xs i x
+    → IsPutting k (frames_in xs) (frames_in (drop i xs)) vs ds out → TakesNext x.0 x.1.items vs vs' ds ds' one → new ≡ out ++ one ∷ [] → IsPutting k (frames_in xs) (frames_in (drop (i + 1) xs)) vs' ds' new
+putting_at k xs i x vs vs' ds ds' out new one low is j takes pushed =
+    let f : Frame = frame_of x.0 x.1.items in
+    let rest : List Frame = frames_in (drop (i + 1) xs) in
+    let at : IsPutting k (frames_in xs) (f ∷ rest) vs ds out = subst (λ (fs : List Frame). IsPutting k (frames_in xs) fs vs ds out) (front_at xs i x low is) j in
+    let t = taken k rest x.0 x.1.items vs vs' ds ds' one at.judged at.hashed takes in
+    record {
+      judged = t.1;
+      hashed = t.2;
+      done = at.done ++ f ∷ [];
+      split = at.split ∙ sym (append_assoc at.done (f ∷ []) rest);
+      is_found = subst (AllZip (IsFound k) (at.done ++ f ∷ [])) (sym pushed) (all_zipped_more (IsFound k) at.done out f one at.is_found t.0);
+    }
 
 pub part_verdicts : {P : Type 0} (k : CommitteeValue) (show : P → List ℕ) (ps qs : List P) (vs : List Verdict) (xs : List (List ℕ)) → qs ≡ ps → map show ps ≡ xs
     → AllZip (λ p v. IsVerdict k (show p) v) qs vs → AllZip (IsVerdict k) xs vs

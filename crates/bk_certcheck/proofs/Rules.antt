@@ -51,12 +51,6 @@ last_number rule.Signer = omega arith
 last_number rule.Quorum = omega arith
 last_number rule.Tag = omega arith
 
-pub none_below_first : (k : CommitteeValue) (c : CertValue) → BreaksNoneBelow k c 1
-none_below_first k c r lt h = not_shape r (one_number r rule.Shape (omega arith)) h
-  where
-    not_shape : (r : Rule) → r ≡ rule.Shape → Breaks k c r → ⊥
-    not_shape r e h = subst (Breaks k c) e h
-
 pub none_below_next : (k : CommitteeValue) (c : CertValue) (r : Rule) (n : ℕ) → n ≡ rule_number r + 1 → BreaksNoneBelow k c (rule_number r) → ¬ Breaks k c r → BreaksNoneBelow k c n
 none_below_next k c r n e below not s lt h =
     elim (cases_lt (rule_number s) (rule_number r)) [

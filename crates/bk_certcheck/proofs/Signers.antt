@@ -1,5 +1,5 @@
 -- Members that a mask marks: who they are, and how much they weigh.
-use Rattle.std.proofs.Common.{◌≡◌, ℕ, zero, suc, ◌+◌, ◌*◌, ◌/◌, ◌%◌, ◌<◌, ◌≤◌, Bool, true, false, eqb, IsTrue, Contains, List, [], ◌∷◌, ◌++◌, length, get_or, refl, sym, ap, subst, ◌∙◌, arith, inl, inr}
+use Rattle.std.proofs.Common.{◌≡◌, ℕ, zero, suc, ◌+◌, ◌/◌, ◌%◌, ◌<◌, ◌≤◌, Bool, true, false, eqb, IsTrue, Contains, List, [], ◌∷◌, ◌++◌, length, get_or, refl, sym, ap, subst, ◌∙◌, arith, inl, inr}
 use Rattle.std.specs.Int.{bit_at}
 use Rattle.std.proofs.lemmas.Bool.{cases_Bool, cases_lt}
 use Rattle.std.proofs.lemmas.List.{get_or_past}
@@ -76,32 +76,6 @@ signers_are_members mask members len none k m =
     elim (cases_lt k members) [
       | inl lt ↦ lt
       | inr past ↦ absurd (none (stranger mask members k m past (below_all mask k len m)))
-    ]
-
--- ---- a byte of the mask
-
--- one of the eight members of a byte is marked, from a number on
-abbrev pub MarkedIn : List ℕ → ℕ → ℕ → Type 0
-MarkedIn mask at from = (m : ℕ) × IsTrue (is_signer mask m) × (m / 8 ≡ at) × (from ≤ m)
-
-pub none_in_zero : (mask : List ℕ) (at from : ℕ) → get_or mask at 0 ≡ 0 → MarkedIn mask at from → ⊥
-none_in_zero mask at from empty (m, marks, there, past) =
-    let none : get_or mask (m / 8) 0 ≡ 0 = ap (λ (k : ℕ). get_or mask k 0) there ∙ empty in
-    let off : is_signer mask m ≡ false = rw none (no_bit (m % 8)) in
-    differ (is_signer mask m) marks off
-
-pub none_from : (mask : List ℕ) (at from end : ℕ) → 8 * at + 8 ≤ end → ((k : ℕ) → from ≤ k → 8 * at ≤ k → k < end → is_signer mask k ≡ false) → MarkedIn mask at from → ⊥
-none_from mask at from end all unmarked (m, marks, there, past) =
-    differ (is_signer mask m) marks (unmarked m past (omega (arith, there)) (omega (arith, there, all)))
-
-pub unmarked_more : (mask : List ℕ) (n at : ℕ) → (MarkedIn mask at n → ⊥) → ((k : ℕ) → n ≤ k → k / 8 < at → is_signer mask k ≡ false) → (k : ℕ) → n ≤ k → k / 8 < at + 1 → is_signer mask k ≡ false
-unmarked_more mask n at none so_far k past lt =
-    elim (cases_lt (k / 8) at) [
-      | inl below ↦ so_far k past below
-      | inr here ↦ elim (cases_Bool (is_signer mask k)) [
-        | inl m ↦ absurd (none (k, m, omega (arith, lt, here), past))
-        | inr m ↦ m
-      ]
     ]
 
 -- ---- weights

@@ -164,28 +164,6 @@ fn next_found(
     }
 }
 
-// What is found of each frame, from the verdicts on the certificates and the batches' digests.
-fn put_together(
-    alloc: Global,
-    frames: &[(Kind, Vec<u8>)],
-    verdicts: Vec<Verdict>,
-    digests: Vec<[u8; 32]>,
-) -> Result<Vec<Found>, AllocError>
-    requires verdicts { length verdicts.items ≡ length (certificates_in (frames_in frames.now)) }
-    requires digests { digests.items ≡ map sha256 (batches_in (frames_in frames.now)) }
-    ensures { IfOk result (λ out. (k : CommitteeValue)
-        → AllZip (IsVerdict k) (certificates_in (frames_in frames.now)) verdicts.items
-        → AllZip (IsFound k) (frames_in frames.now) out.items) }
-{
-    let mut verdicts = verdicts.into_iter();
-    let mut digests = digests.into_iter();
-    let mut out = Vec::with_capacity(alloc, frames.len())?;
-    for frame in frames {
-        out.push(next_found(frame, &mut verdicts, &mut digests))?;
-    }
-    Ok(out)
-}
-
 /// What is found of each frame, in their order, on the calling thread: the certificates are judged together, and the
 /// batches are hashed together. Certificates are judged by this committee. It fails only where memory runs out. O(n) in
 /// all bytes together.
@@ -198,7 +176,11 @@ pub fn find_each(
         (λ out. AllZip (IsFound committee.now) (frames_in frames.now) out.items) }
 {
     let payloads = payloads_of(alloc, frames)?;
-    let verdicts = check_each(alloc, committee, &payloads.certificates)?;
-    let digests = digests_of(alloc, &payloads.batches)?;
-    put_together(alloc, frames, verdicts, digests)
+    let mut verdicts = check_each(alloc, committee, &payloads.certificates)?.into_iter();
+    let mut digests = digests_of(alloc, &payloads.batches)?.into_iter();
+    let mut out = Vec::with_capacity(alloc, frames.len())?;
+    for frame in frames {
+        out.push(next_found(frame, &mut verdicts, &mut digests))?;
+    }
+    Ok(out)
 }

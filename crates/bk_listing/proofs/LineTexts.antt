@@ -5,6 +5,7 @@ use Rattle.std.specs.List.{AllZip, flat_map}
 use Rattle.std.specs.Global.{Vec}
 use Rattle.std.proofs.lemmas.List.{append-nil, take_more, take_all, take-append-drop}
 use Rattle.std.proofs.lemmas.List.Concat.{flat_map-append, flat_map-cons}
+use Rattle.std.proofs.lemmas.Slice.Zip.{all_zipped_more}
 use Rattle.bk_base.specs.declared.kind.Kind.{Kind}
 use Rattle.bk_base.specs.declared.version.Version.{Version}
 use Rattle.bk_base.specs.Feed.{Frame, frame_of, frame_text}
@@ -21,7 +22,6 @@ use Rattle.bk_results.specs.declared.wrong_tag.WrongTag.{WrongTag}
 use Rattle.bk_listing.specs.Forged.{IsFirstForged, IsFirstForgedOf}
 use Rattle.bk_listing.proofs.FirstForged.{first_then, none_of_none}
 use Rattle.bk_certcheck.proofs.PartsOf.{frames_append}
-use Rattle.bk_certcheck.proofs.Zips.{zip_push}
 use Rattle.bk_listing.proofs.Rejected.{rejected_then, rows_counted, rows_rejected}
 
 -- ---- lines in turn
@@ -95,7 +95,7 @@ zip_frame {Y = Y} R xs ys i x y h low there beside =
 -- a row more, and all rows
 pub rows_on : (k : CommitteeValue) (xs : List (Kind × Vec ℕ)) (i : ℕ) (x : Kind × Vec ℕ) (rows new : List FrameRow) (row : FrameRow) → i < length xs → x ≡ get_or xs i x → AllZip (IsRow k) (frames_in (take i xs)) rows → IsRow k (frame_of x.0 x.1.items) row → new ≡ rows ++ row ∷ [] → AllZip (IsRow k) (frames_in (take (i + 1) xs)) new
 rows_on k xs i x rows new row low there h is pushed =
-    subst (λ (p : List Frame × List FrameRow). AllZip (IsRow k) p.0 p.1) (λ j. (sym (frames_more xs i x low there) j, sym pushed j)) (zip_push (IsRow k) (frames_in (take i xs)) rows (frame_of x.0 x.1.items) row h is)
+    subst (λ (p : List Frame × List FrameRow). AllZip (IsRow k) p.0 p.1) (λ j. (sym (frames_more xs i x low there) j, sym pushed j)) (all_zipped_more (IsRow k) (frames_in (take i xs)) rows (frame_of x.0 x.1.items) row h is)
 
 pub rows_all : (k : CommitteeValue) (xs : List (Kind × Vec ℕ)) (i : ℕ) (rows : List FrameRow) → length xs ≤ i → AllZip (IsRow k) (frames_in (take i xs)) rows → AllZip (IsRow k) (frames_in xs) rows
 rows_all k xs i rows low h = subst (λ (ys : List (Kind × Vec ℕ)). AllZip (IsRow k) (frames_in ys) rows) (take_all i xs low) h

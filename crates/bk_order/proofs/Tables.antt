@@ -131,9 +131,6 @@ goes_on_on a b c h g = record {
   batches = begins_on a.batches b.batches c.batches h.batches g.batches;
 }
 
-pub goes_nowhere : (a : Table) → GoesOn a a
-goes_nowhere a = record { rounds = λ x t. t; sizes = refl; batches = ([], sym (append-nil a.batches)) }
-
 pub keeping_on : (k : CommitteeValue) (start table new : Table) (all before left : List Frame) (found later : List Found) (f : Frame) (one : Found) → IsKeeping k start table all before found
     → before ≡ f ∷ left → found ≡ one ∷ later → IsJoined k new.held new.rounds → GoesOn table new → new.next ≡ table.next + 1
     → ((fs : List Frame) → IsKeptOf k fs (kept_in table) → IsKeptOf k (fs ++ f ∷ []) (kept_in new)) → IsKeeping k start new all left later

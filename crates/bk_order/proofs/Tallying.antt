@@ -4,6 +4,7 @@ use Rattle.std.specs.List.{AllZip, Contains, flat_map}
 use Rattle.std.proofs.lemmas.List.{append-nil, length-map, map-append}
 use Rattle.std.proofs.lemmas.List.Concat.{flat_map-append}
 use Rattle.std.proofs.lemmas.List.Elements.{Contains-append_left, Contains-append_right, Contains-append_cases}
+use Rattle.std.proofs.lemmas.Slice.Zip.{all_zipped_more, AllZip-long}
 use Rattle.sha2.specs.Sha256.{sha256}
 use Rattle.bk_base.specs.declared.kind.Kind.{Kind}
 use Rattle.bk_base.specs.declared.kind.Kind.TheVariants as kind
@@ -22,7 +23,6 @@ use Rattle.bk_order.specs.Frames.{AreBatches, AreCerts, certs_by}
 use Rattle.bk_order.specs.Tally.{AreVerdicts, IsTallyOf, digests_in, ids_by}
 use Rattle.bk_order.specs.declared.tally.Tally.{Tally}
 use Rattle.bk_order.specs.private.Tallies.{CountsBatch, CountsVerdict, HasRoom, IsNewBy, IsNewDigest, IsNewId, after_batch, after_broken, after_good, one_if}
-use Rattle.bk_certcheck.proofs.Zips.{zip_length, zip_push}
 use Rattle.bk_order.proofs.Keeping.{lone, good_certs, certs_good}
 use Rattle.bk_order.proofs.OnceMore.{new_named, once_counts, once_short}
 use Rattle.bk_order.specs.private.Digested.{batch_of}
@@ -179,7 +179,7 @@ module _ (k : CommitteeValue) (before : List Frame) (f : Frame) (old : Tally) (t
       record {
         verdicts = t.verdicts ++ verdict.Good c ∷ [];
         are_verdicts = subst (λ (ps : List (List ℕ)). AllZip (IsVerdict k) ps (t.verdicts ++ verdict.Good c ∷ [])) (sym (certificates_more before f e))
-            (zip_push (IsVerdict k) (certificates_in before) t.verdicts f.payload (verdict.Good c) t.are_verdicts h);
+            (all_zipped_more (IsVerdict k) (certificates_in before) t.verdicts f.payload (verdict.Good c) t.are_verdicts h);
         certs = longer old.certs (certificates_in before) (certificates_in (before ++ f ∷ [])) f.payload t.certs (certificates_more before f e);
         good = longer old.good (ids_by t.verdicts) (ids_by (t.verdicts ++ verdict.Good c ∷ [])) c.id t.good ids;
         ids = ap (λ (n : ℕ). n + one_if new) t.ids ∙ (sym (once_counts (ids_by t.verdicts) c.id new (new_id k before held t.verdicts c.id new certs t.are_verdicts is_new))
@@ -195,7 +195,7 @@ module _ (k : CommitteeValue) (before : List Frame) (f : Frame) (old : Tally) (t
       record {
         verdicts = t.verdicts ++ v ∷ [];
         are_verdicts = subst (λ (ps : List (List ℕ)). AllZip (IsVerdict k) ps (t.verdicts ++ v ∷ [])) (sym (certificates_more before f e))
-            (zip_push (IsVerdict k) (certificates_in before) t.verdicts f.payload v t.are_verdicts h);
+            (all_zipped_more (IsVerdict k) (certificates_in before) t.verdicts f.payload v t.are_verdicts h);
         certs = longer old.certs (certificates_in before) (certificates_in (before ++ f ∷ [])) f.payload t.certs (certificates_more before f e);
         good = t.good ∙ ap length (sym ids);
         ids = t.ids ∙ ap (λ (xs : List (List ℕ)). length (once xs)) (sym ids);
@@ -292,7 +292,7 @@ pub tally_has_room : (k : CommitteeValue) (frames : List Frame) (t : Tally) → 
 tally_has_room k frames t is few =
     let c = certificates_few frames in
     let b = batches_few frames in
-    let z = zip_length (IsVerdict k) (certificates_in frames) is.verdicts is.are_verdicts in
+    let z = AllZip-long (IsVerdict k) (certificates_in frames) is.verdicts is.are_verdicts in
     let g = good_few is.verdicts in
     let m = length-map (flat_map certs_by is.verdicts) (λ (c : Node). c.id) in
     let o = once_short (ids_by is.verdicts) in

@@ -1,5 +1,5 @@
 -- Frames of which the first are found, from verdicts and digests in the order of the frames.
-use Rattle.std.specs.Prelude.{◌≡◌, ◌≢◌, ℕ, List, [], ◌∷◌, ◌++◌, length, map}
+use Rattle.std.specs.Prelude.{◌≡◌, ◌≢◌, ℕ, List, [], ◌∷◌, ◌++◌, map}
 use Rattle.std.specs.List.{AllZip}
 use Rattle.sha2.specs.Sha256.{sha256}
 use Rattle.bk_base.specs.declared.kind.Kind.{Kind}
@@ -34,11 +34,10 @@ TakesNext kind.Certificate payload vs vs' ds ds' one =
 TakesNext kind.Batch payload vs vs' ds ds' one =
     (d : List ℕ) × (vs' ≡ vs) × (ds ≡ d ∷ ds') × (one ≡ found.Batch d)
 
--- the first of the frames are found to be this, from the first of the verdicts and the digests, and the others are left
-pub record IsPutting (all frames : List Frame) (verdicts left : List Verdict) (digests : List (List ℕ))
-    (out : List Found) : Type 0 where
-  pub counted : length left ≡ length (certificates_in frames)
+-- of all frames these are left, with the verdicts and the digests of theirs; those before them are found to be this
+pub record IsPutting (k : CommitteeValue) (all frames : List Frame) (verdicts : List Verdict) (digests : List (List ℕ)) (out : List Found) : Type 0 where
+  pub judged : AllZip (IsVerdict k) (certificates_in frames) verdicts
   pub hashed : digests ≡ map sha256 (batches_in frames)
-  pub is_found : (k : CommitteeValue) → AllZip (IsVerdict k) (certificates_in all) verdicts
-      → (done : List Frame) × (all ≡ done ++ frames)
-      × AllZip (IsVerdict k) (certificates_in frames) left × AllZip (IsFound k) done out
+  pub done : List Frame
+  pub split : all ≡ done ++ frames
+  pub is_found : AllZip (IsFound k) done out

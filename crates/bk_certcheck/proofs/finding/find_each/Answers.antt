@@ -1,25 +1,33 @@
-use Rattle.std.proofs.Common.{sym}
-use Rattle.rayon.proofs.ListFacts.{IfOk-then}
+use Rattle.std.proofs.Common.{[], refl, subst, sym, ◌∙◌}
+use Rattle.std.specs.List.{AllZip}
+use Rattle.std.specs.Vec.Iter.{into_iter_items}
 use Rattle.bk_frames.specs.Cutting.{frames_in}
+use Rattle.bk_certcheck.specs.Frames.{IsFound, batches_in, certificates_in}
 use Rattle.bk_certcheck.specs.Verdicts.{IsVerdict}
-use Rattle.bk_certcheck.specs.Frames.{certificates_in, batches_in}
-use Rattle.bk_certcheck.proofs.Zips.{zip_length}
-use Rattle.bk_certcheck.proofs.FoundOf.{part_verdicts, part_digests}
+use Rattle.bk_certcheck.proofs.FoundOf.{can_take_at, part_digests, part_verdicts, putting_at}
 use Rattle.bk_certcheck.proofs.finding.find_each.Goals as goal
 
-pub put_together-requires-clause-verdicts : goal.put_together-requires-clause-verdicts
-put_together-requires-clause-verdicts c =
-    sym (zip_length (IsVerdict c.args.committee.now) (certificates_in (frames_in c.args.frames.now)) c.in_ok-verdicts.verdicts.items
-    (part_verdicts c.args.committee.now (λ p. p.now) c.in_ok-payloads.payloads.certificates.items c.deref.result.now c.in_ok-verdicts.verdicts.items (certificates_in (frames_in c.args.frames.now))
-    c.deref.ensures.value c.in_ok-payloads.ensures.certificates c.in_ok-verdicts.ensures))
+pub loop-frame-init : goal.loop-frame-init
+loop-frame-init c =
+    let k = c.args.committee.now in
+    let frames = frames_in c.args.frames.now in
+    record {
+      judged = subst (AllZip (IsVerdict k) (certificates_in frames)) (sym c.into_iter-verdicts.ensures.rest)
+          (part_verdicts k (λ p. p.now) c.in_ok-payloads.payloads.certificates.items c.deref.result.now c.in_ok-check_each.field-0.items (certificates_in frames) c.deref.ensures.value c.in_ok-payloads.ensures.certificates c.in_ok-check_each.ensures);
+      hashed = c.into_iter-digests.ensures.rest
+          ∙ part_digests (λ p. p.now) c.in_ok-payloads.payloads.batches.items c.deref-2.result.now c.in_ok-digests_of.field-0.items (batches_in frames) c.deref-2.ensures.value c.in_ok-payloads.ensures.batches c.in_ok-digests_of.ensures;
+      done = [];
+      split = refl;
+      is_found = subst (AllZip (IsFound k) []) (sym c.in_ok-out.ensures.items) tt;
+    }
 
-pub put_together-requires-clause-digests : goal.put_together-requires-clause-digests
-put_together-requires-clause-digests c =
-    part_digests (λ p. p.now) c.in_ok-payloads.payloads.batches.items c.deref-2.result.now c.in_ok-digests.digests.items (batches_in (frames_in c.args.frames.now))
-    c.deref-2.ensures.value c.in_ok-payloads.ensures.batches c.in_ok-digests.ensures
+pub next_found-requires : goal.next_found-requires
+next_found-requires c =
+    can_take_at c.args.committee.now c.args.frames.now c.loop-frame.frame-index c.frame-item.result (into_iter_items c.loop-frame.verdicts) (into_iter_items c.loop-frame.digests) c.loop-frame.out.items
+    c.loop-frame-test.true c.frame-item.is c.loop-frame.invariant
 
-pub returns : goal.returns
-returns c =
-    IfOk-then c.put_together.result _ _ c.put_together.ensures (λ v h. h c.args.committee.now
-    (part_verdicts c.args.committee.now (λ p. p.now) c.in_ok-payloads.payloads.certificates.items c.deref.result.now c.in_ok-verdicts.verdicts.items (certificates_in (frames_in c.args.frames.now))
-    c.deref.ensures.value c.in_ok-payloads.ensures.certificates c.in_ok-verdicts.ensures))
+pub loop-frame-preserved : goal.loop-frame-preserved
+loop-frame-preserved c =
+    putting_at c.args.committee.now c.args.frames.now c.loop-frame.frame-index c.frame-item.result (into_iter_items c.loop-frame.verdicts) (into_iter_items c.next_found.new.verdicts)
+    (into_iter_items c.loop-frame.digests) (into_iter_items c.next_found.new.digests) c.loop-frame.out.items c.push.new.self.items c.next_found.result
+    c.loop-frame-test.true c.frame-item.is c.loop-frame.invariant c.next_found.ensures c.in_ok-push.ensures.items

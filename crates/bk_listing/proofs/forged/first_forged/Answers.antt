@@ -1,4 +1,5 @@
 use Rattle.std.proofs.Common.{◌≡◌, ℕ, ◌<◌, List, length, Some, sym, subst, arith, rules}
+use Rattle.std.proofs.lemmas.Slice.Zip.{AllZip-long}
 use Rattle.bk_base.specs.Feed.{frame_of}
 use Rattle.bk_frames.specs.Cutting.{frames_in}
 use Rattle.bk_cert.specs.Values.{CertValue}
@@ -8,7 +9,6 @@ use Rattle.bk_certcheck.specs.declared.rule.Rule.TheVariants as rule
 use Rattle.bk_certcheck.specs.declared.verdict.Verdict.TheVariants as verdict
 use Rattle.bk_listing.specs.Forged.{HasWrongTag}
 use Rattle.bk_listing.specs.private.FrameRow.{IsRow}
-use Rattle.bk_certcheck.proofs.Zips.{zip_length}
 use Rattle.bk_listing.proofs.LineTexts.{long_frames, zip_frame}
 use Rattle.bk_listing.proofs.Forgeries.{none_yet, none_more, none_at_all, first_here, forged_row}
 use Rattle.bk_listing.proofs.forged.first_forged.Goals as goal
@@ -18,11 +18,11 @@ loop-i-init c = none_yet c.args.committee.now
 
 pub offset_bounds-rows-i : goal.offset_bounds-rows-i
 offset_bounds-rows-i c =
-    let low : c.loop-i.i < length c.args.rows.now = omega (arith, zip_length (IsRow c.args.committee.now) (frames_in c.args.frames.now) c.args.rows.now c.requires, long_frames c.args.frames.now, c.loop-i-test.true) in
+    let low : c.loop-i.i < length c.args.rows.now = omega (arith, AllZip-long (IsRow c.args.committee.now) (frames_in c.args.frames.now) c.args.rows.now c.requires, long_frames c.args.frames.now, c.loop-i-test.true) in
     search (rules, low)
 
 pub bounds-rows-i : goal.bounds-rows-i
-bounds-rows-i c = omega (arith, zip_length (IsRow c.args.committee.now) (frames_in c.args.frames.now) c.args.rows.now c.requires, long_frames c.args.frames.now, c.loop-i-test.true)
+bounds-rows-i c = omega (arith, AllZip-long (IsRow c.args.committee.now) (frames_in c.args.frames.now) c.args.rows.now c.requires, long_frames c.args.frames.now, c.loop-i-test.true)
 
 pub wrong_signer-signer-requires : goal.wrong_signer-signer-requires
 wrong_signer-signer-requires c =

@@ -1,17 +1,17 @@
 use Rattle.std.proofs.Common.{◌<◌, length, refl, arith, rules}
+use Rattle.std.proofs.lemmas.Slice.Zip.{AllZip-long}
 use Rattle.bk_frames.specs.Cutting.{frames_in}
 use Rattle.bk_listing.specs.private.FrameRow.{IsRow}
-use Rattle.bk_certcheck.proofs.Zips.{zip_length}
 use Rattle.bk_listing.proofs.LineTexts.{long_frames, place_fits, puts_on, zip_frame}
 use Rattle.bk_listing.proofs.lines.put_lines.Goals as goal
 
 pub offset_bounds-rows-i : goal.offset_bounds-rows-i
 offset_bounds-rows-i c =
-    let low : c.loop-i.i < length c.args.rows.now = omega (arith, zip_length (IsRow c.args.committee.now) (frames_in c.args.frames.now) c.args.rows.now c.requires.rows, long_frames c.args.frames.now, c.loop-i-test.true) in
+    let low : c.loop-i.i < length c.args.rows.now = omega (arith, AllZip-long (IsRow c.args.committee.now) (frames_in c.args.frames.now) c.args.rows.now c.requires.rows, long_frames c.args.frames.now, c.loop-i-test.true) in
     search (rules, low)
 
 pub bounds-rows-i : goal.bounds-rows-i
-bounds-rows-i c = omega (arith, zip_length (IsRow c.args.committee.now) (frames_in c.args.frames.now) c.args.rows.now c.requires.rows, long_frames c.args.frames.now, c.loop-i-test.true)
+bounds-rows-i c = omega (arith, AllZip-long (IsRow c.args.committee.now) (frames_in c.args.frames.now) c.args.rows.now c.requires.rows, long_frames c.args.frames.now, c.loop-i-test.true)
 
 pub overflow_add-place-in-loop-i-2 : goal.overflow_add-place-in-loop-i-2
 overflow_add-place-in-loop-i-2 c =

@@ -1,19 +1,19 @@
 use Rattle.std.proofs.Common.{ℕ, List, ◌<◌, length, sym, subst, arith, rules}
+use Rattle.std.proofs.lemmas.Slice.Zip.{AllZip-long}
 use Rattle.bk_base.specs.Feed.{frame_of}
 use Rattle.bk_frames.specs.Cutting.{frames_in}
 use Rattle.bk_certcheck.specs.Frames.{IsFound}
 use Rattle.bk_listing.specs.private.FrameRow.{IsRow}
-use Rattle.bk_certcheck.proofs.Zips.{zip_length}
 use Rattle.bk_listing.proofs.LineTexts.{long_frames, rows_all, rows_on, zip_frame}
 use Rattle.bk_listing.proofs.rows.rows_of.Goals as goal
 
 pub offset_bounds-found-i : goal.offset_bounds-found-i
 offset_bounds-found-i c =
-    let low : c.loop-i.i < length c.args.found.now = omega (arith, zip_length (IsFound c.args.committee.now) (frames_in c.args.frames.now) c.args.found.now c.requires, long_frames c.args.frames.now, c.loop-i-test.true) in
+    let low : c.loop-i.i < length c.args.found.now = omega (arith, AllZip-long (IsFound c.args.committee.now) (frames_in c.args.frames.now) c.args.found.now c.requires, long_frames c.args.frames.now, c.loop-i-test.true) in
     search (rules, low)
 
 pub bounds-found-i : goal.bounds-found-i
-bounds-found-i c = omega (arith, zip_length (IsFound c.args.committee.now) (frames_in c.args.frames.now) c.args.found.now c.requires, long_frames c.args.frames.now, c.loop-i-test.true)
+bounds-found-i c = omega (arith, AllZip-long (IsFound c.args.committee.now) (frames_in c.args.frames.now) c.args.found.now c.requires, long_frames c.args.frames.now, c.loop-i-test.true)
 
 pub row_of-requires : goal.row_of-requires
 row_of-requires c = (
