@@ -25,23 +25,24 @@ use Rattle.bk_order.specs.declared.reject.Reject.{Reject}
 use Rattle.bk_order.specs.Intake.{IsKeptOf}
 use Rattle.bk_certcheck.specs.Frames.{IsFound, IsOther}
 use Rattle.bk_order.specs.private.Joined.{GoesOn, IsJoined, IsKeeping, kept_in}
-use Rattle.bk_order.specs.declared.tally.Tally.{Tally}
-use Rattle.bk_order.specs.private.Tallies.{CountsBatch, CountsVerdict, HasRoom, IsNewDigest}
+use Rattle.bk_order.specs.declared.tally.Count.{Count}
+use Rattle.bk_order.specs.private.Tallies.{Counts, CountsVerdict, IsNewDigest}
 use Rattle.bk_rounds.specs.Rounds.{RoundsValue}
 use Rattle.bk_order.proofs.Keeping.{same_nothing, kept_certificate, kept_batch, kept_other}
-use Rattle.bk_order.proofs.Tallying.{batch_tallied, other_tallied, tally_has_room, verdict_tallied}
+use Rattle.bk_order.proofs.Tallying.{batch_tallied, other_tallied, verdict_tallied}
 
 -- the frame is counted
 abbrev pub tick : Table → Table
 tick t = record { next = t.next + 1; held = t.held; batches = t.batches; rejected = t.rejected; tally = t.tally; rounds = t.rounds }
 
--- with these batches and this tally
-abbrev pub with_batches : Table → List Batch → Tally → Table
-with_batches t bs tally = record { next = t.next; held = t.held; batches = bs; rejected = t.rejected; tally = tally; rounds = t.rounds }
+-- with these batches, so many
+abbrev pub with_batches : Table → List Batch → Count → Table
+with_batches t bs count =
+    record { next = t.next; held = t.held; batches = bs; rejected = t.rejected; tally = record { certs = t.tally.certs; good = t.tally.good; batches = count }; rounds = t.rounds }
 
--- the tally of what was kept has room for one frame more
-room_for : (k : CommitteeValue) (fs : List Frame) (old : Table) → IsKeptOf k fs (kept_in old) → old.next + 1 < 2 ^ 64 → HasRoom old.tally
-room_for k fs old h few = tally_has_room k fs old.tally h.tally (let n = h.next in omega (arith, n, few))
+-- there are few enough frames for one more
+few_for : (k : CommitteeValue) (fs : List Frame) (old : Table) → IsKeptOf k fs (kept_in old) → old.next + 1 < 2 ^ 64 → length fs + 1 < 2 ^ 64
+few_for k fs old h few = let n = h.next in omega (arith, n, few)
 
 pub record Keeps (k : CommitteeValue) (old mid : Table) (f : Frame) : Type 0 where
   pub joined : IsJoined k mid.held mid.rounds
@@ -58,7 +59,7 @@ cert_keeps k old mid f v id is_cert is_judged ids before after next rounds batch
   goes_on = record { rounds = rounds; sizes = after.sizes ∙ sym before.sizes; batches = ([], batches ∙ sym (append-nil old.batches)) };
   next = ap (λ (n : ℕ). n + 1) next;
   kept = λ fs h. kept_certificate k fs f (kept_in old) (kept_in (tick mid)) h (ap (λ (n : ℕ). n + 1) next)
-      (verdict_tallied k fs f old.tally h.tally old.held mid.tally v h.certs (room_for k fs old h few) is_cert is_judged counts) v is_cert is_judged certs batches (rejected ∙ ap (λ (rs : List Reject). old.rejected.items ++ rs) ids);
+      (verdict_tallied k fs f old.tally h.tally (few_for k fs old h few) old.held mid.tally v h.certs is_cert is_judged counts) v is_cert is_judged certs batches (rejected ∙ ap (λ (rs : List Reject). old.rejected.items ++ rs) ids);
 }
 
 -- what is rejected is held neither as a certificate nor as a batch
@@ -71,15 +72,15 @@ broken_keeps k old mid f r id is joined next rounds batches held rejected few co
     (subst (λ (t : RoundsValue). IsPartOf old.rounds.held t.held) (sym rounds) (λ c h. h)) batches
     (same_nothing mid.held old.held held) rejected few counts
 
-pub batch_keeps : (k : CommitteeValue) (old : Table) (bs : List Batch) (tally : Tally) (f : Frame) (digest : List ℕ) → IsFound k f (found.Batch digest) → IsJoined k old.held old.rounds
-    → HaveSame bs (old.batches ++ batch_with digest f.payload ∷ []) → IsPrefix old.batches bs → old.next + 1 < 2 ^ 64 → CountsBatch old.batches old.tally tally digest
-    → Keeps k old (with_batches old bs tally) f
-batch_keeps k old bs tally f digest is before same begins few counts = record {
+pub batch_keeps : (k : CommitteeValue) (old : Table) (bs : List Batch) (count : Count) (new : Bool) (f : Frame) (digest : List ℕ) → IsFound k f (found.Batch digest) → IsJoined k old.held old.rounds
+    → HaveSame bs (old.batches ++ batch_with digest f.payload ∷ []) → IsPrefix old.batches bs → old.next + 1 < 2 ^ 64 → IsNewDigest old.batches digest new → Counts new old.tally.batches count
+    → Keeps k old (with_batches old bs count) f
+batch_keeps k old bs count new f digest is before same begins few is_new counts = record {
   joined = before;
   goes_on = record { rounds = λ c h. h; sizes = refl; batches = begins };
   next = refl;
-  kept = λ fs h. kept_batch k fs f (kept_in old) (kept_in (tick (with_batches old bs tally))) h refl
-      (batch_tallied k fs f old.tally h.tally old.batches tally digest h.batches (room_for k fs old h few) is.0 is.1 counts) digest is.0 is.1 refl same refl;
+  kept = λ fs h. kept_batch k fs f (kept_in old) (kept_in (tick (with_batches old bs count))) h refl
+      (batch_tallied k fs f old.tally h.tally (few_for k fs old h few) old.batches count digest new h.batches is.0 is.1 is_new counts) digest is.0 is.1 refl same refl;
 }
 
 other_apart : (x : Kind) → IsOther x → (x ≡ kind.Certificate → ⊥) × (x ≡ kind.Batch → ⊥)
@@ -88,13 +89,13 @@ other_apart kind.Genesis h = ((λ e. absurd cc), (λ e. absurd cc))
 other_apart kind.Certificate h = absurd h
 other_apart kind.Batch h = absurd h
 
-pub other_keeps : (k : CommitteeValue) (old : Table) (f : Frame) → IsFound k f found.Other → IsJoined k old.held old.rounds → Keeps k old old f
-other_keeps k old f is before = record {
+pub other_keeps : (k : CommitteeValue) (old : Table) (f : Frame) → IsFound k f found.Other → IsJoined k old.held old.rounds → old.next + 1 < 2 ^ 64 → Keeps k old old f
+other_keeps k old f is before few = record {
   joined = before;
   goes_on = record { rounds = λ c h. h; sizes = refl; batches = ([], sym (append-nil old.batches)) };
   next = refl;
   kept = λ fs h. let apart = other_apart f.kind is in
-      kept_other k fs f (kept_in old) (kept_in (tick old)) h refl (other_tallied k fs f old.tally h.tally old.tally apart.0 apart.1 refl) apart.0 apart.1 refl refl refl;
+      kept_other k fs f (kept_in old) (kept_in (tick old)) h refl (other_tallied k fs f old.tally h.tally (few_for k fs old h few) apart.0 apart.1) apart.0 apart.1 refl refl refl;
 }
 
 -- ---- an offer of a batch

@@ -10,6 +10,7 @@ use Rattle.bk_certcheck.specs.Verdicts.{IsVerdict}
 use Rattle.bk_flatten.specs.Batches.{once}
 use Rattle.bk_certcheck.specs.Frames.{batches_in, certificates_in}
 use Rattle.bk_order.specs.Frames.{certs_by}
+use Rattle.bk_order.specs.declared.tally.Count.{Count}
 use Rattle.bk_order.specs.declared.tally.Tally.{Tally}
 
 -- the ids of the good certificates of these verdicts, as often as they come
@@ -24,13 +25,14 @@ digests_in frames = map sha256 (batches_in frames)
 abbrev pub AreVerdicts : CommitteeValue → List Frame → List Verdict → Type 0
 AreVerdicts k frames verdicts = AllZip (IsVerdict k) (certificates_in frames) verdicts
 
--- how many certificates there are, how many of them are good, and how many ids these have; how many batches, and how many
--- digests these have
+-- how many things have these names, and how many names these are
+abbrev pub count_of : List (List ℕ) → Count
+count_of names = record { all = length names; names = length (once names) }
+
+-- how many certificates there are, and how many of them are good; and how many batches there are
 pub record IsTallyOf (k : CommitteeValue) (frames : List Frame) (t : Tally) : Type 0 where
   pub verdicts : List Verdict
   pub are_verdicts : AreVerdicts k frames verdicts
   pub certs : t.certs ≡ length (certificates_in frames)
-  pub good : t.good ≡ length (ids_by verdicts)
-  pub ids : t.ids ≡ length (once (ids_by verdicts))
-  pub batches : t.batches ≡ length (batches_in frames)
-  pub digests : t.digests ≡ length (once (digests_in frames))
+  pub good : t.good ≡ count_of (ids_by verdicts)
+  pub batches : t.batches ≡ count_of (digests_in frames)

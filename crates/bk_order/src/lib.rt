@@ -27,4 +27,4 @@ pub use laws::{
 };
 pub use reject::Reject;
 pub use stop::Stop;
-pub use tally::Tally;
+pub use tally::{Count, Tally};

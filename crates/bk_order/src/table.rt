@@ -17,7 +17,7 @@ ghost use Rattle.bk_order.specs.private.Joined.{GoesOn, IsJoined, kept_in};
 
 use crate::judging::JudgedFrames;
 use crate::reject::Reject;
-use crate::tally::Tally;
+use crate::tally::{Count, Tally, one_more};
 use bk_base::Kind;
 use bk_cert::SharedCert;
 use bk_certcheck::{Checked, Found, Rule};
@@ -54,7 +54,11 @@ pub(crate) fn empty_table(
         held: Held::new(alloc, rounds.members(), key),
         batches: Batches::new(alloc, key),
         rejected: Vec::new(alloc),
-        tally: Tally::none(),
+        tally: Tally {
+            certs: 0,
+            good: Count { all: 0, names: 0 },
+            batches: Count { all: 0, names: 0 },
+        },
         rounds,
     })
 }
@@ -108,7 +112,8 @@ fn keep_good(
         (CountsVerdict table.old.held table.old.tally table.new.tally (verdict.Good good)) }
 {
     let new = hold(alloc, committee, &mut table.held, &mut table.rounds, good)?;
-    table.tally = table.tally.with_good(new);
+    table.tally.certs = one_more(table.tally.certs);
+    table.tally.good = table.tally.good.with(new);
     Ok(())
 }
 
@@ -128,7 +133,7 @@ fn keep_broken(table: &mut Table, rule: Rule, id: Option<Digest32>) -> Result<()
         rule,
         id,
     })?;
-    table.tally = table.tally.with_broken();
+    table.tally.certs = one_more(table.tally.certs);
     Ok(())
 }
 
@@ -169,7 +174,7 @@ fn keep(
         Found::Broken(rule, id) => keep_broken(table, rule, id)?,
         Found::Batch(digest) => {
             let new = keep_batch(&mut table.batches, digest, frame.1)?;
-            table.tally = table.tally.with_batch(new);
+            table.tally.batches = table.tally.batches.with(new);
         }
         Found::Other => {}
     }

@@ -11,10 +11,12 @@ use Rattle.bk_base.specs.declared.version.Version.{Version}
 use Rattle.bk_committee.specs.Payload.{CommitteeValue, committee_bytes, committee_of, sizes_of}
 use Rattle.bk_committee.specs.Sizes.{Sizes}
 use Rattle.bk_cert.specs.declared.place.CertRef.{CertRef}
+use Rattle.bk_certcheck.specs.Frames.{batches_in}
 use Rattle.bk_order.specs.Frames.{AreRejects}
 use Rattle.bk_order.specs.Intake.{Taken, first_later_frame}
 use Rattle.bk_order.specs.Orders.{AreRoundsOf, AreWaiting}
-use Rattle.bk_order.specs.Tally.{IsTallyOf, digests_in}
+use Rattle.bk_order.specs.Tally.{IsTallyOf}
+use Rattle.bk_order.specs.declared.tally.Count.{Count}
 use Rattle.bk_rounds.specs.Rounds.{RoundsValue}
 use Rattle.bk_tx.specs.Batches.{count_in}
 use Rattle.bk_report.specs.RunLines.{Reading}
@@ -83,7 +85,7 @@ module _ (feed : FeedValue) (x : ClosedValue) (rounds : RoundsValue) (waiting : 
     e ∙ (λ i. record {
       all = tally.certs i;
       rejected = length taken.kept.rejected;
-      repeated = tally.good i - tally.ids i;
+      repeated = (tally.good i).all - (tally.good i).names;
       waiting = length waiting;
       ordered = length taken.ordered.order;
     }),
@@ -103,12 +105,12 @@ module _ (feed : FeedValue) (x : ClosedValue) (rounds : RoundsValue) (waiting : 
       let counts : x.ledger.counts ≡ map count_in taken.ordered.payloads.list = closed.executed.counts in
       let ordered : length x.ledger.counts ≡ length taken.ordered.payloads.list = ap length counts ∙ length-map taken.ordered.payloads.list count_in in
       let void : void_in x.ledger.counts ≡ count_by is_void taken.ordered.payloads.list = ap void_in counts ∙ void_counted taken.ordered.payloads.list in
-      let lacks : length (unordered_digests taken.ordered (later_frames feed)) ≡ taken.kept.tally.digests - length x.ledger.counts =
-      unordered_counts (committee_in feed) (later_frames feed) taken.ordered closed.order.ordered ∙ (λ i. sym tally.digests i - sym ordered i) in
-      let all : taken.kept.tally.batches ≡ length (digests_in (later_frames feed)) = tally.batches ∙ sym (length-map _ sha256) in
+      let lacks : length (unordered_digests taken.ordered (later_frames feed)) ≡ taken.kept.tally.batches.names - length x.ledger.counts =
+      unordered_counts (committee_in feed) (later_frames feed) taken.ordered closed.order.ordered ∙ (λ i. (sym tally.batches i).names - sym ordered i) in
+      let all : taken.kept.tally.batches.all ≡ length (batches_in (later_frames feed)) = ap (λ (c : Count). c.all) tally.batches ∙ length-map _ sha256 in
       e ∙ (λ i. record {
-        all = tally.batches i;
-        repeated = all i - tally.digests i;
+        all = all i;
+        repeated = (tally.batches i).all - (tally.batches i).names;
         ordered = ordered i;
         void = void i;
         unordered = sym lacks i;

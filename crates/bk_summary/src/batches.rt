@@ -26,10 +26,10 @@ pub(crate) fn batch_counts(tally: Tally, counts: &[Option<u16>]) -> BatchCounts
 {
     let ordered = counts.len() as u64;
     BatchCounts {
-        all: tally.batches,
-        repeated: tally.batches.saturating_sub(tally.digests),
+        all: tally.batches.all,
+        repeated: tally.batches.all.saturating_sub(tally.batches.names),
         ordered,
         void: void_in(counts) as u64,
-        unordered: tally.digests.saturating_sub(ordered),
+        unordered: tally.batches.names.saturating_sub(ordered),
     }
 }

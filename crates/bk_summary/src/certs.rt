@@ -30,7 +30,7 @@ pub(crate) fn cert_counts(intake: &Intake, waiting: &[CertRef]) -> CertCounts
     CertCounts {
         all: tally.certs,
         rejected: intake.rejected().len() as u64,
-        repeated: tally.good.saturating_sub(tally.ids),
+        repeated: tally.good.all.saturating_sub(tally.good.names),
         waiting: waiting.len() as u64,
         ordered: intake.order().len() as u64,
     }

@@ -21,7 +21,7 @@ use Rattle.bk_summary.specs.declared.summary.Summary.{Summary}
 -- the counts of certificates of a tally
 abbrev pub certs_of : Tally → ℕ → ℕ → ℕ → CertCounts
 certs_of t rejected waiting ordered =
-    record { all = t.certs; rejected = rejected; repeated = t.good - t.ids; waiting = waiting; ordered = ordered }
+    record { all = t.certs; rejected = rejected; repeated = t.good.all - t.good.names; waiting = waiting; ordered = ordered }
 
 -- how many batches of these counts are void
 abbrev pub void_in : List (Option ℕ) → ℕ
@@ -30,11 +30,11 @@ void_in counts = count_by (λ (c : Option ℕ). not (is_some c)) counts
 -- the counts of batches of a tally
 abbrev pub batches_of : Tally → List (Option ℕ) → BatchCounts
 batches_of t counts = record {
-  all = t.batches;
-  repeated = t.batches - t.digests;
+  all = t.batches.all;
+  repeated = t.batches.all - t.batches.names;
   ordered = length counts;
   void = void_in counts;
-  unordered = t.digests - length counts;
+  unordered = t.batches.names - length counts;
 }
 
 -- the counts of the anchors of a table of rounds

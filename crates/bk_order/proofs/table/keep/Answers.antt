@@ -28,9 +28,9 @@ returns c =
           w.keep_broken.ensures.next w.keep_broken.ensures.rounds w.keep_broken.ensures.batches
           w.keep_broken.ensures.certs w.in_ok-keep_broken-in-Broken.ensures.rejected c.requires.room w.in_ok-keep_broken-in-Broken.ensures.tally)
       | in-Batch+in_ok-new-in-Batch w ↦ subst (λ (t : Table). Keeps k old t f) (sym w.table-is)
-          (batch_keeps k old w.keep_batch.new.batches w.with_batch-table.result f w.in-Batch.digest (subst (IsFound k f) w.in-Batch.is c.requires.found) c.requires.joined
+          (batch_keeps k old w.keep_batch.new.batches w.with-table.result w.in_ok-new-in-Batch.new f w.in-Batch.digest (subst (IsFound k f) w.in-Batch.is c.requires.found) c.requires.joined
           w.in_ok-new-in-Batch.ensures.same w.in_ok-new-in-Batch.ensures.begins
-          c.requires.room (w.in_ok-new-in-Batch.new, w.in_ok-new-in-Batch.ensures.new, w.with_batch-table.ensures))
-      | in-Other w ↦ subst (λ (t : Table). Keeps k old t f) (sym w.table-is) (other_keeps k old f (subst (IsFound k f) w.in-Other.is c.requires.found) c.requires.joined)
+          c.requires.room w.in_ok-new-in-Batch.ensures.new w.with-table.ensures)
+      | in-Other w ↦ subst (λ (t : Table). Keeps k old t f) (sym w.table-is) (other_keeps k old f (subst (IsFound k f) w.in-Other.is c.requires.found) c.requires.joined c.requires.room)
     ] in
     record { joined = all.joined; goes_on = all.goes_on; next = all.next; kept = all.kept }
