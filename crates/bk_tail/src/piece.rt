@@ -1,18 +1,15 @@
 //! One piece of a feed that is followed.
 
-ghost use Rattle.std.specs.Prelude.{◌≡◌, ◌<◌, ◌≤◌, ℕ, List, [], length, take, true, false, IfOk, IfErr};
-ghost use Rattle.std.specs.Io.KnownBytes.{IsAtEnd};
+ghost use Rattle.std.specs.Prelude.{◌≡◌, ◌<◌, ◌≤◌, ℕ, List, length, true, false, IfOk, IfErr};
 ghost use Rattle.bk_answer.specs.RunReport.{reach_of};
 ghost use Rattle.bk_base.specs.Feed.{Frame};
 ghost use Rattle.bk_follow.specs.Follower.{receipts_in};
 ghost use Rattle.bk_follow.specs.Queries.{missing_in};
-ghost use Rattle.bk_frames.specs.Device.{CanBeUsed, Device, Ends, ends_of, Fails, Gives, Works};
+ghost use Rattle.bk_frames.specs.Device.{CanBeUsed, Device, Ends};
 ghost use Rattle.bk_frames.specs.Reading.{room_of};
-ghost use Rattle.bk_frames.specs.declared.fault.FaultCode.TheVariants as code;
 ghost use Rattle.bk_frames.specs.declared.pulling.TheConstants.{PIECE};
-ghost use Rattle.bk_results.specs.declared.fault.Fault.TheVariants as fault;
 ghost use Rattle.bk_tail.specs.Tailing.{EndsAsAsked};
-ghost use Rattle.bk_tail.specs.private.Steps.{AdvanceFails, Advanced, EndsIf, HasFollowed};
+ghost use Rattle.bk_tail.specs.private.Steps.{AdvanceFails, Advanced, CameIn, EndsIf, HasFollowed, PullFails};
 
 use bk_follow::Follower;
 use bk_frames::{FaultCode, FeedFault, Source};
@@ -30,17 +27,8 @@ const PAUSE: u64 = 100;
 fn pull_once<S: Source>(source: &mut S, piece: &mut [u8], offset: u64) -> Result<usize, Fault>
     requires sound { CanBeUsed (S.state source.old) }
     requires some { 0 < length piece.old }
-    ensures bound { IfOk result (λ n. n ≤ length piece.new) }
-    ensures came { IfOk result (λ n. Gives (S.state source.old) (S.state source.new)
-        (take n piece.new)) }
-    ensures works { IfOk result (λ n. Works (S.state source.old) (S.state source.new)) }
-    ensures end { IfOk result (λ n. n ≡ 0 → IsAtEnd (S.state source.new).bytes) }
-    ensures ends { IfOk result (λ n. Ends (ends_of n 1) (S.state source.old) (S.state source.new)) }
-    ensures fault { IfErr result (λ f. f
-        ≡ fault.Feed (record { offset = offset; code = code.Read })) }
-    ensures kept { IfErr result (λ f. Gives (S.state source.old) (S.state source.new) []) }
-    ensures goes_on { IfErr result (λ f. Ends 0 (S.state source.old) (S.state source.new)) }
-    ensures fails { IfErr result (λ f. Fails (S.state source.old) (S.state source.new)) }
+    ensures came { IfOk result (CameIn false (S.state source.old) (S.state source.new) piece.new) }
+    ensures failed { IfErr result (PullFails false offset (S.state source.old) (S.state source.new)) }
 {
     match source.pull(piece) {
         Ok(count) => Ok(count),
@@ -60,15 +48,8 @@ fn pull_waiting<R: Clock + Wait, S: Source>(
 ) -> Result<usize, Fault>
     requires sound { CanBeUsed (S.state source.old) }
     requires some { 0 < length piece.old }
-    ensures bound { IfOk result (λ n. n ≤ length piece.new) }
-    ensures came { IfOk result (λ n. Gives (S.state source.old) (S.state source.new)
-        (take n piece.new)) }
-    ensures works { IfOk result (λ n. Works (S.state source.old) (S.state source.new)) }
-    ensures some { IfOk result (λ n. 0 < n) }
-    ensures fault { IfErr result (λ f. f
-        ≡ fault.Feed (record { offset = offset; code = code.Read })) }
-    ensures kept { IfErr result (λ f. Gives (S.state source.old) (S.state source.new) []) }
-    ensures fails { IfErr result (λ f. Fails (S.state source.old) (S.state source.new)) }
+    ensures came { IfOk result (CameIn true (S.state source.old) (S.state source.new) piece.new) }
+    ensures failed { IfErr result (PullFails true offset (S.state source.old) (S.state source.new)) }
 {
     for _ in rt.forever() {
         let count = pull_once(source, piece, offset)?;
@@ -90,20 +71,8 @@ fn pull<R: Clock + Wait, S: Source>(
 ) -> Result<usize, Fault>
     requires sound { CanBeUsed (S.state source.old) }
     requires some { 0 < length piece.old }
-    ensures bound { IfOk result (λ n. n ≤ length piece.new) }
-    ensures came { IfOk result (λ n. Gives (S.state source.old) (S.state source.new)
-        (take n piece.new)) }
-    ensures works { IfOk result (λ n. Works (S.state source.old) (S.state source.new)) }
-    ensures some { waits ≡ true → IfOk result (λ n. 0 < n) }
-    ensures end { IfOk result (λ n. n ≡ 0 → IsAtEnd (S.state source.new).bytes) }
-    ensures ends { waits ≡ false → IfOk result (λ n. Ends (ends_of n 1)
-        (S.state source.old) (S.state source.new)) }
-    ensures fault { IfErr result (λ f. f
-        ≡ fault.Feed (record { offset = offset; code = code.Read })) }
-    ensures kept { IfErr result (λ f. Gives (S.state source.old) (S.state source.new) []) }
-    ensures goes_on { waits ≡ false → IfErr result (λ f. Ends 0
-        (S.state source.old) (S.state source.new)) }
-    ensures fails { IfErr result (λ f. Fails (S.state source.old) (S.state source.new)) }
+    ensures came { IfOk result (CameIn waits (S.state source.old) (S.state source.new) piece.new) }
+    ensures failed { IfErr result (PullFails waits offset (S.state source.old) (S.state source.new)) }
 {
     if waits {
         pull_waiting(rt, source, piece, offset)

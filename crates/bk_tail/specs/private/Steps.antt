@@ -1,8 +1,10 @@
 -- One piece of a feed that is followed.
-use Rattle.std.specs.Prelude.{◌≡◌, ◌≤◌, ℕ, Bool, true, false, List, Some}
+use Rattle.std.specs.Prelude.{◌≡◌, ◌<◌, ◌≤◌, ℕ, Bool, true, false, List, [], length, take, Some}
+use Rattle.std.specs.Io.KnownBytes.{IsAtEnd}
 use Rattle.bk_base.specs.Feed.{Frame}
 use Rattle.bk_commit.specs.Growth.{IsPrefix}
-use Rattle.bk_frames.specs.Device.{Device, Ends, Works, Gives, IfKnown}
+use Rattle.bk_frames.specs.Device.{Device, Ends, Fails, Works, Gives, IfKnown, ends_of}
+use Rattle.bk_frames.specs.declared.fault.FaultCode.TheVariants as code
 use Rattle.bk_frames.specs.Pulling.{Gave, Refuses}
 use Rattle.bk_results.specs.declared.fault.Fault.{Fault}
 use Rattle.bk_results.specs.declared.fault.Fault.TheVariants as fault
@@ -10,6 +12,22 @@ use Rattle.bk_answer.specs.RunReport.{HasPlaceIn, IsStopIn}
 use Rattle.bk_follow.specs.Follower.{BookValue, Followed, HasCome, IsCurrent, IsSettled}
 use Rattle.bk_follow.specs.Finishing.{EndsAs}
 use Rattle.bk_tail.specs.Tailing.{OfWholeFrames}
+
+-- so many bytes came into a buffer, and no call failed: none only at the end of the source, and some where it is waited for
+pub record CameIn (waits : Bool) (old new : Device) (buf : List ℕ) (n : ℕ) : Type 0 where
+  pub bound : n ≤ length buf
+  pub came : Gives old new (take n buf)
+  pub works : Works old new
+  pub some : waits ≡ true → 0 < n
+  pub end : n ≡ 0 → IsAtEnd new.bytes
+  pub ends : waits ≡ false → Ends (ends_of n 1) old new
+
+-- the source failed in the frame that begins at this offset, and gave nothing
+pub record PullFails (waits : Bool) (offset : ℕ) (old new : Device) (f : Fault) : Type 0 where
+  pub fault : f ≡ fault.Feed (record { offset = offset; code = code.Read })
+  pub kept : Gives old new []
+  pub goes_on : waits ≡ false → Ends 0 old new
+  pub fails : Fails old new
 
 -- since `start` a source gave these bytes, no call of it failed, and a Follower took them: these frames are whole
 pub record HasFollowed (start now : Device) (bytes : List ℕ) (frames : List Frame) (v : Followed) : Type 0 where
