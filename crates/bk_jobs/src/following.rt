@@ -16,8 +16,8 @@ use bk_cli::{Exit, JobFault, Table};
 use bk_frames::{Sink, Source};
 use bk_pool::Gate;
 use bk_results::{Fault, Status};
-use bk_tables::{Accounts, Postings, Transactions, read_accounts};
-use bk_tail::{tail_postings, tail_transactions};
+use bk_tables::{Accounts, PaymentRows, PostingRows, read_accounts};
+use bk_tail::tail_table;
 use std::sync::Wait;
 use std::thread::Threads;
 use std::time::Clock;
@@ -55,34 +55,28 @@ where
     let settings = terms.settings(workers);
     let strict = terms.strict;
     match shown {
-        Table::Transactions => {
-            let rows = Transactions { accounts };
-            end_of(tail_transactions(
-                rt,
-                rt.alloc(),
-                source,
-                out,
-                settings,
-                gate,
-                &rows,
-                strict,
-                wait,
-            ))
-        }
-        Table::Postings => {
-            let rows = Postings { accounts };
-            end_of(tail_postings(
-                rt,
-                rt.alloc(),
-                source,
-                out,
-                settings,
-                gate,
-                &rows,
-                strict,
-                wait,
-            ))
-        }
+        Table::Transactions => end_of(tail_table::<R, S, O, G, PaymentRows>(
+            rt,
+            rt.alloc(),
+            source,
+            out,
+            settings,
+            gate,
+            &accounts,
+            strict,
+            wait,
+        )),
+        Table::Postings => end_of(tail_table::<R, S, O, G, PostingRows>(
+            rt,
+            rt.alloc(),
+            source,
+            out,
+            settings,
+            gate,
+            &accounts,
+            strict,
+            wait,
+        )),
     }
 }
 

@@ -105,8 +105,15 @@ where
 }
 
 /// Reads a feed to its end, and writes a table of it as it becomes final: after each piece of at most [`PIECE`] bytes, the
-/// rows of the places that the whole frames so far add to the order, before more is read.
-pub(crate) fn tail_table<R, S: Source, K: Sink, G: Gate + Sync, T: TableRows + Drop>(
+/// rows of the places that the whole frames so far add to the order, before more is read. The header comes with the first
+/// rows, or at the end. What rows need of the places before them is kept, so a piece executes only its own places for them.
+/// With a list, only the rows that have one of its accounts are written. Where `strict` is set, it is found at the end what
+/// keeps the feed from counting whole. Where `waits` is set, there is no end: at the end of the source it waits for more,
+/// and only an error ends it.
+///
+/// A fault of the feed or a stop ends it at the piece that shows it, and of that piece no row is written. What is out
+/// then is the table of a feed that nothing stops, or nothing; what a failed sink has is the beginning of one.
+pub fn tail_table<R, S: Source, K: Sink, G: Gate + Sync, T: TableRows + Drop>(
     rt: &R,
     alloc: Global,
     source: &mut S,
