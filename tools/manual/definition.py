@@ -279,9 +279,7 @@ def read_program():
     """The program as a command: its commands are in `subcommand`."""
     program = Body(Source(), "command", [None]).result()
     names = [it.name for it in program["subcommand"]]
-    verbs = re.findall(r'is\(word, "(.*?)"\)', read(f"{SOURCE}/verb.rt"))
-    last = re.findall(r"^        Verb::(\w+)$", read(f"{SOURCE}/verb.rt"), re.MULTILINE)
-    verbs += [re.sub(r"\B(?=[A-Z])", "-", it).lower() for it in last]
+    verbs = re.findall(r'^            Verb::\w+ => "(.*?)",$', read(f"{SOURCE}/verb.rt"), re.MULTILINE)
     for name in sorted({*names} ^ {*verbs}):
         fail(f"the command {name} is in only one of commands.rt and verb.rt")
     for command in (program, *program["subcommand"]):

@@ -1,5 +1,6 @@
 -- What the words of a command line name.
-use Rattle.std.proofs.Common.{ℕ, ◌≡◌, ◌⊎◌, ◌∙◌, inl, inr, sym, ap, ap₂, refl, List, [], ◌∷◌, Option, Some, None, Bool, true, false, map, codes, option_map, cond, subst}
+use Rattle.std.proofs.Common.{ℕ, zero, suc, ◌+◌, ◌<◌, ◌≤◌, ◌≡◌, ◌⊎◌, ◌∙◌, inl, inr, sym, ap, ap₂, refl, List, [], ◌∷◌, Option, Some, None, Bool, true, false, drop, get_or, length, map, codes, option_map, cond, subst, arith}
+use Rattle.std.proofs.lemmas.List.{drop_all, length-map}
 use Rattle.std.specs.Prelude.{Box, unwrap_or, find, if◌then◌else◌}
 use Rattle.std.specs.Str.{IsUtf8, bytes_eq}
 use Rattle.std.proofs.lemmas.Slice.Eq.{bytes_eq-Decides}
@@ -12,7 +13,9 @@ use Rattle.clap.specs.declared.parser.matches.ArgMatches.{ArgMatches}
 use Rattle.clap.specs.declared.parser.matches.SubCommand.{SubCommand}
 use Rattle.clap.specs.declared.parser.matches.ArgMatches.TheViews.{out-ArgMatches, out-SubCommand}
 use Rattle.bk_cli.specs.CommandLine.{all_words, AreNamedBy, AreNotesIn, AreNotesOf, IsOn, IsOneOf, IsStrictOf, IsJobOf, IsJobAt, NamesNoJob}
-use Rattle.bk_cli.specs.Commands.{command_line}
+use Rattle.bk_cli.specs.Commands.{command_line, word_of}
+use Rattle.bk_cli.specs.declared.verb.TheConstants.{ALL}
+use Rattle.bk_cli.specs.declared.verb.Verb.{Verb}
 use Rattle.bk_cli.specs.Files.{reads_input_twice}
 use Rattle.bk_cli.specs.declared.job.Job.{Job}
 use Rattle.bk_cli.specs.declared.notes.Notes.{Notes}
@@ -99,20 +102,27 @@ entered_one (Some q) name rows e = picked (λ s. answers_to q.0 (label_of s)) (b
 pub one_of_all : (words : List Text) (name : Text) (rows : List Row) → subcommand_of command_line words ≡ Some (name, rows) → IsOneOf all_words name
 one_of_all words name rows e = entered_one (stop_after (built command_line).top.rules (names_of (built command_line)) (argument_words command_line words)) name rows e
 
--- a word that is equal to one
-pub is_word : (word x : Text) → bytes_eq word x ≡ true → word ≡ x
-is_word word x same = (bytes_eq-Decides word x).0 same
-
--- and one of several that is not equal to the first
-pub not_first : (word x : Text) (xs : List Text) → bytes_eq word x ≡ false → IsOneOf (x ∷ xs) word → IsOneOf xs word
+-- one of several that is not equal to the first
+not_first : (word x : Text) (xs : List Text) → bytes_eq x word ≡ false → IsOneOf (x ∷ xs) word → IsOneOf xs word
 not_first word x xs differs (inr h) = h
 not_first word x xs differs (inl h) =
-    let equal : bytes_eq word x ≡ true = (bytes_eq-Decides word x).1 h in
+    let equal : bytes_eq x word ≡ true = (bytes_eq-Decides x word).1 (sym h) in
     absurd (cc)
 
-pub the_last : (word x : Text) → IsOneOf (x ∷ []) word → word ≡ x
-the_last word x (inl h) = h
-the_last word x (inr h) = absurd h
+-- the words from one command on
+words_from : (f : Verb → Text) (vs : List Verb) (i : ℕ) (d : Verb) → i < length vs → drop i (map f vs) ≡ f (get_or vs i d) ∷ drop (i + 1) (map f vs)
+words_from f [] i d low = absurd (omega (arith, low))
+words_from f (v ∷ vs) zero d low = refl
+words_from f (v ∷ vs) (suc i) d low = let k : suc i + 1 ≡ suc (i + 1) = omega arith in rw k (words_from f vs i d (omega (arith, low)))
+
+-- a word that is none of those so far is one of the others
+pub next_word : (word here : Text) (i : ℕ) (d : Verb) → i < length ALL → here ≡ word_of (get_or ALL i d) → bytes_eq here word ≡ false → IsOneOf (drop i all_words) word → IsOneOf (drop (i + 1) all_words) word
+next_word word here i d low is differs h =
+    not_first word here (drop (i + 1) all_words) differs (subst (λ (ws : List Text). IsOneOf ws word) (words_from word_of ALL i d low ∙ ap (λ (w : Text). w ∷ drop (i + 1) all_words) (sym is)) h)
+
+-- and no word is none of all
+pub no_word : (word : Text) (i : ℕ) → length ALL ≤ i → IsOneOf (drop i all_words) word → ⊥
+no_word word i high h = subst (λ (ws : List Text). IsOneOf ws word) (drop_all i all_words (omega (arith, high, length-map ALL word_of))) h
 
 -- ---- the words are text
 

@@ -1,5 +1,5 @@
 -- The command line, and the job that its words ask for.
-use Rattle.std.specs.Prelude.{◌≡◌, ◌≤◌, ◌<◌, ◌⊎◌, ◌^◌, ℕ, Bool, List, [], ◌∷◌, Option, Some, None, true, false, codes, option_map, string_bytes, unwrap_or}
+use Rattle.std.specs.Prelude.{◌≡◌, ◌≤◌, ◌<◌, ◌⊎◌, ◌^◌, ℕ, Bool, List, [], ◌∷◌, Option, Some, None, true, false, codes, map, option_map, string_bytes, unwrap_or}
 use Rattle.std.specs.Str.Parse.{IsNumeral, digits_value, without_leading_plus}
 use Rattle.hex.specs.Hex.{encode_lower}
 use Rattle.clap.specs.Values.{kind_of}
@@ -20,6 +20,7 @@ use Rattle.bk_cli.specs.declared.view.Table.{Table}
 use Rattle.bk_cli.specs.declared.view.Table.TheVariants as table
 use Rattle.bk_cli.specs.declared.view.View.{View}
 use Rattle.bk_cli.specs.declared.view.View.TheVariants as view
+use Rattle.bk_cli.specs.declared.verb.TheConstants.{ALL}
 use Rattle.bk_cli.specs.declared.verb.Verb.{Verb}
 use Rattle.bk_cli.specs.declared.verb.Verb.TheVariants as verb
 use Rattle.bk_cli.specs.Commands.{word_of}
@@ -248,10 +249,4 @@ IsOneOf (x ∷ xs) word = (word ≡ x) ⊎ IsOneOf xs word
 
 -- the words of all commands
 abbrev pub all_words : List Text
-all_words =
-    word_of verb.Run ∷ word_of verb.Make ∷ word_of verb.Order ∷ word_of verb.Account ∷ word_of verb.Receipt
-    ∷ word_of verb.Prove ∷ word_of verb.Frames ∷ word_of verb.Summary ∷ word_of verb.Anchors ∷ word_of verb.Dag
-    ∷ word_of verb.Statement ∷ word_of verb.Transactions ∷ word_of verb.Postings ∷ word_of verb.Batches
-    ∷ word_of verb.Waiting ∷ word_of verb.Missing ∷ word_of verb.Evidence
-    ∷ word_of verb.CheckProof ∷ word_of verb.CheckState ∷ word_of verb.CheckReport ∷ word_of verb.Apply
-    ∷ word_of verb.Schedule ∷ word_of verb.Compare ∷ word_of verb.Link ∷ word_of verb.CheckChain ∷ []
+all_words = map word_of ALL

@@ -1,7 +1,6 @@
 //! The commands by name.
 
 ghost use Rattle.std.specs.Prelude.{◌≡◌};
-ghost use Rattle.std.specs.Str.{bytes_eq};
 ghost use Rattle.bk_cli.specs.CommandLine.{IsOneOf, all_words};
 ghost use Rattle.bk_cli.specs.Commands.{word_of};
 
@@ -35,91 +34,79 @@ pub(crate) enum Verb {
     CheckChain,
 }
 
-// Whether the word is the other.
-fn is(word: &str, other: &str) -> bool
-    ensures { bytes_eq word.now other.now ≡ result }
-{
-    word == other
-}
+// All commands.
+const ALL: [Verb; 25] = [
+    Verb::Run,
+    Verb::Make,
+    Verb::Order,
+    Verb::Account,
+    Verb::Receipt,
+    Verb::Prove,
+    Verb::Frames,
+    Verb::Summary,
+    Verb::Anchors,
+    Verb::Dag,
+    Verb::Statement,
+    Verb::Transactions,
+    Verb::Postings,
+    Verb::Batches,
+    Verb::Waiting,
+    Verb::Missing,
+    Verb::Evidence,
+    Verb::CheckProof,
+    Verb::CheckState,
+    Verb::CheckReport,
+    Verb::Apply,
+    Verb::Schedule,
+    Verb::Compare,
+    Verb::Link,
+    Verb::CheckChain,
+];
 
 impl Verb {
+    // The word of the command.
+    fn word(self) -> &'static str
+        ensures { result.now ≡ word_of self }
+    {
+        match self {
+            Verb::Run => "run",
+            Verb::Make => "make",
+            Verb::Order => "order",
+            Verb::Account => "account",
+            Verb::Receipt => "receipt",
+            Verb::Prove => "prove",
+            Verb::Frames => "frames",
+            Verb::Summary => "summary",
+            Verb::Anchors => "anchors",
+            Verb::Dag => "dag",
+            Verb::Statement => "statement",
+            Verb::Transactions => "transactions",
+            Verb::Postings => "postings",
+            Verb::Batches => "batches",
+            Verb::Waiting => "waiting",
+            Verb::Missing => "missing",
+            Verb::Evidence => "evidence",
+            Verb::CheckProof => "check-proof",
+            Verb::CheckState => "check-state",
+            Verb::CheckReport => "check-report",
+            Verb::Apply => "apply",
+            Verb::Schedule => "schedule",
+            Verb::Compare => "compare",
+            Verb::Link => "link",
+            Verb::CheckChain => "check-chain",
+        }
+    }
+
     /// The command of this word, which is that of one.
     pub(crate) fn of(word: &str) -> Verb
         requires known { IsOneOf all_words word.now }
         ensures { word.now ≡ word_of result }
     {
-        if is(word, "run") {
-            return Verb::Run;
+        for verb in ALL {
+            if verb.word() == word {
+                return verb;
+            }
         }
-        if is(word, "make") {
-            return Verb::Make;
-        }
-        if is(word, "order") {
-            return Verb::Order;
-        }
-        if is(word, "account") {
-            return Verb::Account;
-        }
-        if is(word, "receipt") {
-            return Verb::Receipt;
-        }
-        if is(word, "prove") {
-            return Verb::Prove;
-        }
-        if is(word, "frames") {
-            return Verb::Frames;
-        }
-        if is(word, "summary") {
-            return Verb::Summary;
-        }
-        if is(word, "anchors") {
-            return Verb::Anchors;
-        }
-        if is(word, "dag") {
-            return Verb::Dag;
-        }
-        if is(word, "statement") {
-            return Verb::Statement;
-        }
-        if is(word, "transactions") {
-            return Verb::Transactions;
-        }
-        if is(word, "postings") {
-            return Verb::Postings;
-        }
-        if is(word, "batches") {
-            return Verb::Batches;
-        }
-        if is(word, "waiting") {
-            return Verb::Waiting;
-        }
-        if is(word, "missing") {
-            return Verb::Missing;
-        }
-        if is(word, "evidence") {
-            return Verb::Evidence;
-        }
-        if is(word, "check-proof") {
-            return Verb::CheckProof;
-        }
-        if is(word, "check-state") {
-            return Verb::CheckState;
-        }
-        if is(word, "check-report") {
-            return Verb::CheckReport;
-        }
-        if is(word, "apply") {
-            return Verb::Apply;
-        }
-        if is(word, "schedule") {
-            return Verb::Schedule;
-        }
-        if is(word, "compare") {
-            return Verb::Compare;
-        }
-        if is(word, "link") {
-            return Verb::Link;
-        }
-        Verb::CheckChain
+        unreachable!()
     }
 }
