@@ -8,7 +8,7 @@ use Rattle.bk_frames.specs.Writing.{StopsWriting, Writes}
 use Rattle.bk_frames.specs.declared.writing.WriteFault.{WriteFault}
 use Rattle.bk_results.specs.Devices.{devices}
 use Rattle.bk_script.specs.Answers.{HasRead, IsRead}
-use Rattle.bk_script.specs.Script.{lines_of}
+use Rattle.bk_script.specs.Listing.{lines_of}
 use Rattle.bk_script.proofs.WholeTexts.{known_then}
 use Rattle.bk_chain.specs.declared.fault.ChainFault.{ChainFault}
 use Rattle.bk_chain.specs.declared.fault.ChainFault.TheVariants as fault

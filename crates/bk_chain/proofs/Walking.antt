@@ -5,10 +5,9 @@ use Rattle.std.proofs.lemmas.Bool.{eq-eqb, eqb-true}
 use Rattle.std.proofs.lemmas.List.{length-take, take_all}
 use Rattle.std.proofs.lemmas.List.Elements.{All-nil, All-push}
 use Rattle.bk_script.specs.Words.{pieces, pieces_after}
-use Rattle.bk_script.specs.Script.{ended_lines, last_line, lines_of}
+use Rattle.bk_script.specs.Listing.{ended_lines, last_line, lines_of}
 use Rattle.bk_script.proofs.Cuts.{goes_on}
-use Rattle.bk_script.proofs.TextLines.{next_line, ended_begin, pieces_end, ended_all, last_of_all}
-use Rattle.bk_script.proofs.WholeTexts.{lines_one, rest_is}
+use Rattle.bk_script.proofs.TextLines.{next_line, ended_begin, pieces_end, ended_all, last_of_all, lines_one, rest_is}
 use Rattle.bk_chain.specs.declared.fault.ChainFault.{ChainFault}
 use Rattle.bk_chain.specs.declared.fault.ChainFault.TheVariants as fault
 use Rattle.bk_chain.specs.declared.link.LinkValue.{LinkValue}

@@ -7,7 +7,7 @@ use Rattle.bk_base.specs.declared.version.Version.{Version}
 use Rattle.bk_base.specs.declared.version.Version.TheVariants as version
 use Rattle.bk_results.specs.declared.status.Status.{Status}
 use Rattle.bk_results.specs.declared.status.Status.TheVariants as status
-use Rattle.bk_script.specs.Script.{lines_of}
+use Rattle.bk_script.specs.Listing.{lines_of}
 use Rattle.bk_chain.specs.declared.link.LinkValue.{LinkValue}
 use Rattle.bk_chain.specs.declared.reading.TheConstants.{MOST_LINKS}
 use Rattle.bk_chain.specs.declared.verdict.Break.{Break}

@@ -50,10 +50,10 @@ ended f xs ys x sep text start end h l e is items inv =
     ∙ inv
 
 -- the piece goes on
-pub goes_on : (before : List (List ℕ)) (sep : ℕ) (text : List ℕ) (start end : ℕ) → start ≤ end → end < length text
+pub goes_on : {all : List (List ℕ)} (before : List (List ℕ)) (sep : ℕ) (text : List ℕ) (start end : ℕ) → start ≤ end → end < length text
     → (get_or text end 0 ≡ sep → ⊥)
-    → before ++ pieces_after sep (take (end - start) (drop start text)) (drop end text) ≡ pieces_after sep [] text
-    → before ++ pieces_after sep (take (end + 1 - start) (drop start text)) (drop (end + 1) text) ≡ pieces_after sep [] text
+    → before ++ pieces_after sep (take (end - start) (drop start text)) (drop end text) ≡ all
+    → before ++ pieces_after sep (take (end + 1 - start) (drop start text)) (drop (end + 1) text) ≡ all
 goes_on before sep text start end h l e inv =
     let more = pieces_after sep [] (drop (end + 1) text) in
     let front = take (end - start) (drop start text) in

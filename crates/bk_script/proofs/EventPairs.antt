@@ -2,8 +2,7 @@
 use Rattle.std.proofs.Common.{◌≡◌, ℕ, ◌+◌, nat_le, Bool, true, false, if◌then◌else◌, List, [], ◌∷◌, ◌++◌, length, take, Option, Some, None, Result, Ok, Err, refl, sym, ap, subst, ◌∙◌, length-append}
 use Rattle.bk_steps.specs.declared.event.Event.{Event}
 use Rattle.bk_script.specs.Lines.{is_ascii, is_skipped, words_of}
-use Rattle.bk_script.specs.Script.{ended_lines, lines_of}
-use Rattle.bk_script.specs.Listing.{then_more, listed, crossing, listed_within}
+use Rattle.bk_script.specs.Listing.{ended_lines, lines_of, then_more, listed, crossing, taken_within, listed_within}
 use Rattle.bk_script.specs.Events.{EventList, no_events, event_of, with_event, with_event_line}
 
 abbrev ArePaired : EventList → Type 0
@@ -30,10 +29,10 @@ list_paired k a n (line ∷ lines) h eq =
     then_paired (with_event_line k n line) a (λ b. listed with_event_line b (n + 1) lines) (λ b e. line_paired (is_ascii line) (is_skipped line) k b n (event_of (words_of line)) e h)
     (λ b paired e. list_paired b a (n + 1) lines paired e) eq
 
-either_paired : (b : Bool) (lines : List (List ℕ)) (cut : List ℕ) (a : EventList) → (if b then listed with_event_line no_events 1 lines else crossing with_event_line no_events cut) ≡ Ok a → ArePaired a
+either_paired : (b : Bool) (lines : List (List ℕ)) (cut : List ℕ) (a : EventList) → (if b then listed with_event_line no_events 1 lines else crossing with_event_line (λ n. n) no_events cut) ≡ Ok a → ArePaired a
 either_paired true lines cut a eq = list_paired no_events a 1 lines refl eq
 either_paired false lines cut a eq = then_paired (listed with_event_line no_events 1 (ended_lines cut)) a (λ _. Err (length (lines_of cut))) (λ b e. list_paired no_events b 1 (ended_lines cut) refl e) (λ b paired e. absurd cc) eq
 
 pub events_paired : (most : ℕ) (text : List ℕ) (a : EventList) → listed_within with_event_line no_events most text ≡ Ok a → length a.lines ≡ length a.list
-unfolding listed_within
+unfolding taken_within
 events_paired most text a eq = either_paired (nat_le (length text) most) (lines_of text) (take (most + 1) text) a eq

@@ -9,7 +9,7 @@ pub mod Named
 pub mod Sorted
 pub mod Masks
 pub mod TextLines
-pub mod WholeTexts
 pub mod ListLines
+pub mod WholeTexts
 pub mod WholeLists
 pub mod EventPairs

@@ -1,94 +1,113 @@
 -- A list whose lines are taken in turn.
-use Rattle.std.proofs.Common.{◌≡◌, ℕ, zero, suc, ◌+◌, ◌-◌, ◌<◌, ◌≤◌, List, [], ◌∷◌, ◌++◌, length, get_or, take, drop, refl, sym, ap, ◌∙◌, Result, Ok, Err, arith, length-append}
-use Rattle.bk_script.specs.Words.{pieces, pieces_after}
-use Rattle.bk_script.specs.Script.{ended_lines, last_line}
-use Rattle.bk_script.specs.Listing.{Lists, then_more, listed}
-use Rattle.bk_results.specs.declared.lines_fault.LinesFault.{LinesFault}
-use Rattle.bk_results.specs.declared.lines_fault.LinesFault.TheVariants as fault
-use Rattle.bk_script.proofs.Cuts.{goes_on}
-use Rattle.bk_script.proofs.TextLines.{next_line, ended_begin, pieces_end, ended_all, last_of_all}
+use Rattle.std.proofs.Common.{◌≡◌, ℕ, ◌+◌, ◌-◌, ◌<◌, ◌≤◌, ◌==◌, ◌&&◌, nat_le, nat_lt, Bool, true, false, if◌then◌else◌, List, length, take, drop, Result, Ok, Err, refl, sym, ap, ◌∙◌, arith}
+use Rattle.std.proofs.lemmas.List.{take_all, take-take, length-take-le}
+use Rattle.std.proofs.lemmas.Bool.Decides.{nat_tests}
+use Rattle.bk_script.specs.Answers.{IsRead}
+use Rattle.bk_script.specs.Listing.{ended_lines, lines_of, then_more, listed, crossing, taken_within}
+use Rattle.bk_script.specs.private.LineEnds.{IsLine}
+use Rattle.bk_script.proofs.TextLines.{ended_past, lines_past}
 
-module _ {L : Type 0} (w : L → ℕ → List ℕ → Result L ℕ) where
-  -- ---- what lines say after others
+then_then : {A B C E : Type 0} (r : Result A E) (f : A → Result B E) (g : B → Result C E) → then_more (then_more r f) g ≡ then_more r (λ a. then_more (f a) g)
+then_then (Ok a) f g = refl
+then_then (Err e) f g = refl
 
-  -- lines after a first one
-  list_one : (k : L) (n : ℕ) (first : Result L ℕ) (before lines : List (List ℕ))
-      → ((a : L) → listed w a (n + 1) (before ++ lines) ≡ then_more (listed w a (n + 1) before) (λ b. listed w b (n + 1 + length before) lines))
-      → then_more first (λ a. listed w a (n + 1) (before ++ lines)) ≡ then_more (then_more first (λ a. listed w a (n + 1) before)) (λ b. listed w b (n + suc (length before)) lines)
-  list_one k n (Ok a) before lines more =
-      let e : n + 1 + length before ≡ n + suc (length before) = omega arith in
-      more a ∙ ap (λ m. then_more (listed w a (n + 1) before) (λ b. listed w b m lines)) e
-  list_one k n (Err found) before lines more = refl
+module _ {L E : Type 0} (w : L → ℕ → List ℕ → Result L E) (too_long : ℕ → E) where
+  -- what the rest of a text makes, whose first line has number `n`: of a text that crosses the limit in line `all`, if it
+  -- is not short
+  abbrev pub left : Bool → ℕ → L → ℕ → List ℕ → Result L E
+  left short all a n text =
+      if short then listed w a n (lines_of text) else then_more (listed w a n (ended_lines text)) (λ _. Err (too_long all))
 
-  -- lines before others
-  pub list_append : (k : L) (n : ℕ) (before lines : List (List ℕ))
-      → listed w k n (before ++ lines) ≡ then_more (listed w k n before) (λ a. listed w a (n + length before) lines)
+  -- the lines before `start` are taken, so many
+  abbrev pub HasTaken : ℕ → L → L → ℕ → ℕ → List ℕ → Type 0
+  HasTaken most k a count start text =
+      (count + length (lines_of (drop start text)) ≡ length (lines_of text))
+      × (taken_within w too_long k most text ≡ left (nat_le (length text) most) (length (lines_of text)) a (count + 1) (drop start text))
+
+  either_cut : (b : Bool) (most : ℕ) (k : L) (text : List ℕ) → length text ≤ most + 1
+      → (if b then listed w k 1 (lines_of text) else crossing w too_long k (take (most + 1) text)) ≡ left b (length (lines_of text)) k 1 text
+  either_cut true most k text few = refl
+  either_cut false most k text few = ap (crossing w too_long k) (take_all (most + 1) text few)
+
+  pub none_taken : (most : ℕ) (k : L) (text : List ℕ) → length text ≤ most + 1 → HasTaken most k k 0 0 text
+  unfolding taken_within
+  none_taken most k text few = (omega arith, either_cut (nat_le (length text) most) most k text few)
+
+  -- a line decides what the rest makes
+  decides : (short : Bool) (all : ℕ) (a : L) (n start end : ℕ) (text : List ℕ) → IsLine text start end → (short ≡ false → end < length text)
+      → left short all a n (drop start text) ≡ then_more (w a n (take (end - start) (drop start text))) (λ b. left short all b (n + 1) (drop (end + 1) text))
   unfolding listed
-  list_append k n [] lines = let e : n ≡ n + zero = omega arith in ap (λ m. listed w k m lines) e
-  list_append k n (line ∷ before) lines = list_one k n (w k n line) before lines (λ a. list_append a (n + 1) before lines)
+  decides true all a n start end text is within = ap (listed w a n) is.lines
+  decides false all a n start end text is within =
+      let line = take (end - start) (drop start text) in
+      ap (λ ls. then_more (listed w a n ls) (λ _. Err (too_long all))) (is.ended (within refl))
+      ∙ then_then (w a n line) (λ b. listed w b (n + 1) (ended_lines (drop (end + 1) text))) (λ _. Err (too_long all))
 
-  -- a line more has no fault
-  pub list_good : (k a b : L) (count : ℕ) (before : List (List ℕ)) (line : List ℕ) → listed w k 1 before ≡ Ok a → length before + 1 ≡ count
-      → w a count line ≡ Ok b → listed w k 1 (before ++ line ∷ []) ≡ Ok b
-  unfolding listed
-  list_good k a b count before line e n good =
-      let m : 1 + length before ≡ count = omega (arith, n) in
-      list_append k 1 before (line ∷ [])
-      ∙ ap (λ r. then_more r (λ a. listed w a (1 + length before) (line ∷ []))) e
-      ∙ ap (λ m. then_more (w a m line) (λ b. Ok b)) m
-      ∙ ap (λ r. then_more r (λ b. Ok b)) good
+  module _ (most : ℕ) (k a : L) (count start end : ℕ) (text : List ℕ) (is : IsLine text start end) (taken : HasTaken most k a count start text) where
+    -- the line in which the text crosses the limit
+    pub crosses_there : true ≡ (nat_lt most (length text) && end == length text) → taken_within w too_long k most text ≡ Err (too_long (count + 1))
+    unfolding listed
+    crosses_there crosses =
+        let last : end ≡ length text = grind (arith, nat_tests) in
+        let long : nat_le (length text) most ≡ false = grind (arith, nat_tests) in
+        let all : length (lines_of text) ≡ count + 1 = omega (arith, taken.0, ap length is.lines, ap length (lines_past text (end + 1) (omega (arith, last)))) in
+        taken.1 ∙ ap (λ b. left b (length (lines_of text)) a (count + 1) (drop start text)) long
+        ∙ ap (λ ls. then_more (listed w a (count + 1) ls) (λ _. Err (too_long (length (lines_of text))))) (is.unended last)
+        ∙ ap (λ n. Err (too_long n)) all
 
-  -- a line more has a fault
-  pub list_bad : (k a : L) (count : ℕ) (before more : List (List ℕ)) (line : List ℕ) (found : ℕ) → listed w k 1 before ≡ Ok a → length before + 1 ≡ count
-      → w a count line ≡ Err found → listed w k 1 (before ++ line ∷ more) ≡ Err found
-  unfolding listed
-  list_bad k a count before more line found e n bad =
-      let m : 1 + length before ≡ count = omega (arith, n) in
-      list_append k 1 before (line ∷ more)
-      ∙ ap (λ r. then_more r (λ a. listed w a (1 + length before) (line ∷ more))) e
-      ∙ ap (λ m. then_more (w a m line) (λ b. listed w b (m + 1) more)) m
-      ∙ ap (λ r. then_more r (λ b. listed w b (count + 1) more)) bad
+    module _ (not : false ≡ (nat_lt most (length text) && end == length text)) where
+      goes_past : nat_le (length text) most ≡ false → end < length text
+      goes_past long = let within = is.within in grind (arith, nat_tests)
 
-  -- ---- while the lines are taken
+      says : taken_within w too_long k most text ≡ then_more (w a (count + 1) (take (end - start) (drop start text))) (λ b. left (nat_le (length text) most) (length (lines_of text)) b (count + 1 + 1) (drop (end + 1) text))
+      says = taken.1 ∙ decides (nat_le (length text) most) (length (lines_of text)) a (count + 1) start end text is goes_past
 
-  -- some lines are taken, with these events; the next one begins at `start` and goes on at `end`
-  abbrev pub HasListed : L → L → ℕ → ℕ → ℕ → List ℕ → Type 0
-  HasListed k a count start end text =
-      (before : List (List ℕ)) × (before ++ pieces_after 10 (take (end - start) (drop start text)) (drop end text) ≡ pieces 10 text)
-      × (length before ≡ count) × (listed w k 1 before ≡ Ok a)
-
-  pub none_listed : (k : L) (text : List ℕ) → HasListed k k 0 0 0 text
-  unfolding listed
-  none_listed k text = ([], refl, refl, refl)
-
-  pub one_listed : (k a b : L) (count start end : ℕ) (text : List ℕ) → start ≤ end → end < length text → get_or text end 0 ≡ 10
-      → w a (count + 1) (take (end - start) (drop start text)) ≡ Ok b → HasListed k a count start end text → HasListed k b (count + 1) (end + 1) (end + 1) text
-  one_listed k a b count start end text h l e good (before, parts, n, known) =
-      let line = take (end - start) (drop start text) in (
-        before ++ line ∷ [],
-        next_line before text start end h l e parts,
-        omega (arith, n, length-append before (line ∷ [])),
-        list_good k a b (count + 1) before line known (omega (arith, n)) good,
+      -- a line without a fault
+      pub one_taken : (b : L) → w a (count + 1) (take (end - start) (drop start text)) ≡ Ok b → HasTaken most k b (count + 1) (end + 1) text
+      one_taken b good = (
+        omega (arith, taken.0, ap length is.lines),
+        says ∙ ap (λ r. then_more r (λ b. left (nat_le (length text) most) (length (lines_of text)) b (count + 1 + 1) (drop (end + 1) text))) good,
       )
 
-  pub none_ends : (k a : L) (count start end : ℕ) (text : List ℕ) → start ≤ end → end < length text → (get_or text end 0 ≡ 10 → ⊥)
-      → HasListed k a count start end text → HasListed k a count start (end + 1) text
-  none_ends k a count start end text h l e (before, parts, n, known) = (before, goes_on before 10 text start end h l e parts, n, known)
+      -- and one with a fault
+      pub one_stops : (e : E) → w a (count + 1) (take (end - start) (drop start text)) ≡ Err e → taken_within w too_long k most text ≡ Err e
+      one_stops e bad = says ∙ ap (λ r. then_more r (λ b. left (nat_le (length text) most) (length (lines_of text)) b (count + 1 + 1) (drop (end + 1) text))) bad
 
-  -- a line has a fault
-  pub list_stops : (k a : L) (count start end : ℕ) (text : List ℕ) (e : LinesFault) → start ≤ end → end < length text → get_or text end 0 ≡ 10
-      → Lists {A = Unit {0}} (λ _. k) (Err e) (w a (count + 1) (take (end - start) (drop start text))) → HasListed k a count start end text
-      → Lists {A = Unit {0}} (λ _. k) (Err e) (listed w k 1 (ended_lines text))
-  list_stops k a count start end text (fault.Line line) h l e bad (before, parts, n, known) =
-      let (more, begins) = ended_begin before text start end h l e parts in
-      ap (listed w k 1) begins ∙ list_bad k a (count + 1) before more (take (end - start) (drop start text)) line known (omega (arith, n)) bad
-  list_stops k a count start end text fault.Read h l e bad taken = bad
-  list_stops k a count start end text fault.Memory h l e bad taken = bad
+  -- all lines are taken
+  module _ (most : ℕ) (k a : L) (count start : ℕ) (text : List ℕ) (past : length text ≤ start) (taken : HasTaken most k a count start text) where
+    pub all_counted : count ≡ length (lines_of text)
+    all_counted = omega (arith, taken.0, ap length (lines_past text start past))
 
-  -- all lines are taken that a line feed ends
-  pub all_listed : (k a : L) (count start end : ℕ) (text : List ℕ) → length text ≤ end → HasListed k a count start end text
-      → (listed w k 1 (ended_lines text) ≡ Ok a) × (count ≡ length (ended_lines text)) × (drop start text ≡ last_line text)
-  all_listed k a count start end text l (before, parts, n, known) =
-      let all = pieces_end before text start end l parts in
-      let lines = ended_all before text (drop start text) all in
-      (ap (listed w k 1) lines ∙ known, sym n ∙ ap length (sym lines), sym (last_of_all before text (drop start text) all))
+    pub all_taken : length text ≤ most → taken_within w too_long k most text ≡ Ok a
+    unfolding listed
+    all_taken few =
+        let short : nat_le (length text) most ≡ true = grind (arith, nat_tests) in
+        taken.1 ∙ ap (λ b. left b (length (lines_of text)) a (count + 1) (drop start text)) short ∙ ap (listed w a (count + 1)) (lines_past text start past)
+
+    pub all_cross : most < length text → taken_within w too_long k most text ≡ Err (too_long count)
+    unfolding listed
+    all_cross many =
+        let long : nat_le (length text) most ≡ false = grind (arith, nat_tests) in
+        taken.1 ∙ ap (λ b. left b (length (lines_of text)) a (count + 1) (drop start text)) long
+        ∙ ap (λ ls. then_more (listed w a (count + 1) ls) (λ _. Err (too_long (length (lines_of text))))) (ended_past text start past)
+        ∙ ap (λ n. Err (too_long n)) (sym all_counted)
+
+  -- ---- the text that was read makes the list of all bytes
+
+  cut_at : (b : Bool) (most : ℕ) (k : L) (bytes : List ℕ) → nat_le (length bytes) most ≡ b
+      → taken_within w too_long k most (take (most + 1) bytes) ≡ taken_within w too_long k most bytes
+  unfolding taken_within
+  cut_at true most k bytes few =
+      let short : length bytes ≤ most = grind (arith, nat_tests) in
+      ap (taken_within w too_long k most) (take_all (most + 1) bytes (omega (arith, short)))
+  cut_at false most k bytes many =
+      let long : most < length bytes = grind (arith, nat_tests) in
+      let whole : length (take (most + 1) bytes) ≡ most + 1 = length-take-le (most + 1) bytes (omega (arith, long)) in
+      let cut : nat_le (length (take (most + 1) bytes)) most ≡ false = grind (arith, nat_tests) in
+      ap (λ b. if b then listed w k 1 (lines_of (take (most + 1) bytes)) else crossing w too_long k (take (most + 1) (take (most + 1) bytes))) cut
+      ∙ ap (crossing w too_long k) (take-take (most + 1) (most + 1) bytes (omega arith))
+      ∙ ap (λ b. if b then listed w k 1 (lines_of bytes) else crossing w too_long k (take (most + 1) bytes)) (sym many)
+
+  pub taken_of_read : (most : ℕ) (k : L) (bytes text : List ℕ) → IsRead most bytes text → taken_within w too_long k most text ≡ taken_within w too_long k most bytes
+  unfolding IsRead
+  taken_of_read most k bytes text is = ap (taken_within w too_long k most) is ∙ cut_at (nat_le (length bytes) most) most k bytes refl

@@ -1,57 +1,14 @@
--- A text whose lines are taken in turn.
-use Rattle.std.proofs.Common.{◌≡◌, ℕ, zero, suc, ◌+◌, ◌-◌, ◌<◌, ◌≤◌, ◌==◌, List, [], ◌∷◌, ◌++◌, length, get_or, take, drop, Bool, true, false, refl, sym, ap, ◌∙◌, Result, Ok, Err, append_assoc, arith, if◌then◌else◌, length-drop, length-append}
-use Rattle.std.proofs.lemmas.List.{at_drop_all, take_at, take_all, get_or_at}
-use Rattle.std.proofs.lemmas.Bool.{eq-eqb}
+-- The lines of a text, one after another.
+use Rattle.std.proofs.Common.{◌≡◌, ℕ, zero, suc, ◌+◌, ◌-◌, ◌<◌, ◌≤◌, ◌==◌, List, [], ◌∷◌, ◌++◌, length, get_or, take, drop, Bool, true, false, refl, sym, ap, ◌∙◌, arith, if◌then◌else◌, append_assoc, length-append, length-drop}
+use Rattle.std.proofs.Math.ListN.{drop_of_length-le}
+use Rattle.std.proofs.lemmas.List.{at_drop_all, get_or_at, take_all, take_at}
+use Rattle.std.proofs.lemmas.Bool.{eq-eqb, ne_eqb}
 use Rattle.bk_script.specs.Words.{pieces, pieces_after}
-use Rattle.bk_script.specs.Known.{Known}
-use Rattle.bk_script.specs.Judging.{judged}
-use Rattle.bk_script.specs.Script.{LineFault, ended_lines, last_line, in_line, then_from, after_lines}
-use Rattle.bk_results.specs.declared.script_fault.ScriptFault.{ScriptFault}
-use Rattle.bk_results.specs.declared.script_fault.ScriptFault.TheVariants as fault
-use Rattle.bk_script.specs.private.Agreeing.{Agrees}
-use Rattle.bk_script.proofs.Cuts.{piece_step, goes_on}
+use Rattle.bk_script.specs.Listing.{ended_lines, last_line, lines_of}
+use Rattle.bk_script.specs.private.LineEnds.{IsLine}
+use Rattle.bk_script.proofs.Cuts.{piece_step}
 
--- ---- what is known after lines
-
--- lines after a first one
-after_one : (k : Known) (n : ℕ) (first : Result Known LineFault) (line : List ℕ) (before lines : List (List ℕ))
-    → ((a : Known) → after_lines a (n + 1) (before ++ lines) ≡ then_from (after_lines a (n + 1) before) (λ b. after_lines b (n + 1 + length before) lines))
-    → then_from first (λ a. after_lines a (n + 1) (before ++ lines)) ≡ then_from (then_from first (λ a. after_lines a (n + 1) before)) (λ b. after_lines b (n + suc (length before)) lines)
-after_one k n (Ok a) line before lines more =
-    let e : n + 1 + length before ≡ n + suc (length before) = omega arith in
-    more a ∙ ap (λ m. then_from (after_lines a (n + 1) before) (λ b. after_lines b m lines)) e
-after_one k n (Err found) line before lines more = refl
-
--- lines before others
-pub after_append : (k : Known) (n : ℕ) (before lines : List (List ℕ))
-    → after_lines k n (before ++ lines) ≡ then_from (after_lines k n before) (λ a. after_lines a (n + length before) lines)
-unfolding after_lines
-after_append k n [] lines = let e : n ≡ n + zero = omega arith in ap (λ m. after_lines k m lines) e
-after_append k n (line ∷ before) lines = after_one k n (in_line n (judged k line)) line before lines (λ a. after_append a (n + 1) before lines)
-
--- a line more has no fault
-pub after_good : (k a b : Known) (count : ℕ) (before : List (List ℕ)) (line : List ℕ) → after_lines k 1 before ≡ Ok a → length before + 1 ≡ count
-    → in_line count (judged a line) ≡ Ok b → after_lines k 1 (before ++ line ∷ []) ≡ Ok b
-unfolding after_lines
-after_good k a b count before line e n good =
-    let m : 1 + length before ≡ count = omega (arith, n) in
-    after_append k 1 before (line ∷ [])
-    ∙ ap (λ r. then_from r (λ a. after_lines a (1 + length before) (line ∷ []))) e
-    ∙ ap (λ m. then_from (in_line m (judged a line)) (λ b. Ok b)) m
-    ∙ ap (λ r. then_from r (λ b. Ok b)) good
-
--- a line more has a fault
-pub after_bad : (k a : Known) (count : ℕ) (before more : List (List ℕ)) (line : List ℕ) (found : LineFault) → after_lines k 1 before ≡ Ok a → length before + 1 ≡ count
-    → in_line count (judged a line) ≡ Err found → after_lines k 1 (before ++ line ∷ more) ≡ Err found
-unfolding after_lines
-after_bad k a count before more line found e n bad =
-    let m : 1 + length before ≡ count = omega (arith, n) in
-    after_append k 1 before (line ∷ more)
-    ∙ ap (λ r. then_from r (λ a. after_lines a (1 + length before) (line ∷ more))) e
-    ∙ ap (λ m. then_from (in_line m (judged a line)) (λ b. after_lines b (m + 1) more)) m
-    ∙ ap (λ r. then_from r (λ b. after_lines b (count + 1) more)) bad
-
--- ---- the pieces of a text
+-- ---- the line that begins a text
 
 -- there is one piece at least
 some_either : (b : Bool) (front : List ℕ) (ps qs : List (List ℕ)) → 0 < length qs → 0 < length (if b then front ∷ ps else qs)
@@ -62,6 +19,91 @@ pieces_some : (sep : ℕ) (front text : List ℕ) → 0 < length (pieces_after s
 unfolding pieces_after
 pieces_some sep front [] = omega arith
 pieces_some sep front (c ∷ text) = some_either (c == sep) front (pieces_after sep [] text) (pieces_after sep (front ++ c ∷ []) text) (pieces_some sep (front ++ c ∷ []) text)
+
+cons_either : (b : Bool) (line last : List ℕ) (lines : List (List ℕ)) → (if b then line ∷ lines else line ∷ (lines ++ last ∷ [])) ≡ line ∷ (if b then lines else lines ++ last ∷ [])
+cons_either true line last lines = refl
+cons_either false line last lines = refl
+
+-- a line that a line feed ends
+module _ (text line rest : List ℕ) (cut : pieces 10 text ≡ line ∷ pieces 10 rest) where
+  one_more : length (line ∷ pieces 10 rest) - 1 ≡ suc (length (pieces 10 rest) - 1)
+  one_more = omega (arith, pieces_some 10 [] rest)
+
+  ended_first : ended_lines text ≡ line ∷ ended_lines rest
+  ended_first = ap (λ (ps : List (List ℕ)). take (length ps - 1) ps) cut ∙ ap (λ n. take n (line ∷ pieces 10 rest)) one_more
+
+  last_same : last_line text ≡ last_line rest
+  last_same = ap (λ (ps : List (List ℕ)). get_or ps (length ps - 1) []) cut ∙ ap (λ n. get_or (line ∷ pieces 10 rest) n []) one_more
+
+  lines_first : lines_of text ≡ line ∷ lines_of rest
+  lines_first =
+      (λ i. if length (last_same i) == 0 then ended_first i else ended_first i ++ last_same i ∷ [])
+      ∙ cons_either (length (last_line rest) == 0) line (last_line rest) (ended_lines rest)
+
+-- a line that ends with the text
+module _ (text line : List ℕ) (cut : pieces 10 text ≡ line ∷ []) where
+  ended_none : ended_lines text ≡ []
+  ended_none = ap (λ (ps : List (List ℕ)). take (length ps - 1) ps) cut
+
+  last_only : last_line text ≡ line
+  last_only = ap (λ (ps : List (List ℕ)). get_or ps (length ps - 1) []) cut
+
+  line_only : (length line ≡ 0 → ⊥) → lines_of text ≡ line ∷ []
+  line_only some =
+      (λ i. if length (last_only i) == 0 then ended_none i else ended_none i ++ last_only i ∷ [])
+      ∙ ap (λ b. if b then [] else line ∷ []) (ne_eqb (length line) 0 some)
+
+-- after the end of a text there are none
+pub ended_past : (text : List ℕ) (start : ℕ) → length text ≤ start → ended_lines (drop start text) ≡ []
+unfolding pieces_after
+ended_past text start l = ap ended_lines (drop_of_length-le text l)
+
+pub lines_past : (text : List ℕ) (start : ℕ) → length text ≤ start → lines_of (drop start text) ≡ []
+unfolding pieces_after
+lines_past text start l = ap lines_of (drop_of_length-le text l)
+
+-- ---- where it ends
+
+-- the line goes on at `end`
+abbrev pub GoesOn : List ℕ → ℕ → ℕ → Type 0
+GoesOn text start end = pieces_after 10 (take (end - start) (drop start text)) (drop end text) ≡ pieces 10 (drop start text)
+
+pub goes_from : (text : List ℕ) (start : ℕ) → GoesOn text start start
+goes_from text start = let none : start - start ≡ 0 = omega arith in ap (λ n. pieces_after 10 (take n (drop start text)) (drop start text)) none
+
+pub line_ends : (text : List ℕ) (start end : ℕ) → start ≤ end → end < length text → get_or text end 0 ≡ 10 → GoesOn text start end → IsLine text start end
+line_ends text start end h l e on =
+    let line = take (end - start) (drop start text) in
+    let rest = drop (end + 1) text in
+    let cut : pieces 10 (drop start text) ≡ line ∷ pieces 10 rest =
+    sym on ∙ piece_step 10 text start end h l
+    ∙ ap (λ b. if b then line ∷ pieces_after 10 [] rest else pieces_after 10 (take (end + 1 - start) (drop start text)) rest) (eq-eqb (get_or text end 0) 10 e) in
+    record {
+      from = h;
+      within = omega (arith, l);
+      lines = lines_first (drop start text) line rest cut;
+      ended = λ _. ended_first (drop start text) line rest cut;
+      unended = λ same. absurd (omega (arith, same, l));
+    }
+
+pub text_ends : (text : List ℕ) (start end : ℕ) → start < length text → length text ≤ end → GoesOn text start end → IsLine text start (length text)
+unfolding pieces_after
+text_ends text start end some l on =
+    let line = take (length text - start) (drop start text) in
+    let whole : take (end - start) (drop start text) ≡ drop start text = take_all (end - start) (drop start text) (omega (arith, l, length-drop start text)) in
+    let same : line ≡ drop start text = take_all (length text - start) (drop start text) (omega (arith, length-drop start text)) in
+    let past : pieces_after 10 (take (end - start) (drop start text)) (drop end text) ≡ take (end - start) (drop start text) ∷ [] = at_drop_all (pieces_after 10 (take (end - start) (drop start text))) text end l in
+    let cut : pieces 10 (drop start text) ≡ line ∷ [] = sym on ∙ past ∙ ap (λ p. p ∷ []) (whole ∙ sym same) in
+    record {
+      from = omega (arith, some);
+      within = omega arith;
+      lines = line_only (drop start text) line cut (λ none. absurd (omega (arith, none, some, ap length same, length-drop start text)))
+          ∙ ap (λ ls. line ∷ ls) (sym (lines_past text (length text + 1) (omega arith)));
+      ended = λ less. absurd (omega (arith, less));
+      unended = λ _. ended_none (drop start text) line cut;
+    }
+
+-- ---- all lines that a line feed ends
 
 -- the front of a list that goes past its first part
 take_behind : {X : Type 0} (xs ys : List X) (n : ℕ) → take (length xs + n) (xs ++ ys) ≡ xs ++ take n ys
@@ -119,47 +161,14 @@ last_of_all before text last all =
     let many : length (before ++ last ∷ []) - 1 ≡ length before = omega (arith, length-append before (last ∷ [])) in
     ap (λ (ps : List (List ℕ)). get_or ps (length ps - 1) []) (sym all) ∙ ap (λ n. get_or (before ++ last ∷ []) n []) many ∙ get_or_at before last [] [] (length before) refl
 
--- ---- while the lines are taken
+-- bytes after the last line feed
+pub rest_is : (text last : List ℕ) (end : ℕ) → last ≡ take (length text - end) (drop end text) → drop end text ≡ last_line text → last ≡ last_line text
+rest_is text last end is rest = is ∙ take_all (length text - end) (drop end text) (omega (arith, length-drop end text)) ∙ rest
 
--- some lines are taken, and what is known after them; the next one begins at `start` and goes on at `end`
-abbrev pub HasTaken : Known → Known → ℕ → ℕ → ℕ → List ℕ → Type 0
-HasTaken k a count start end text =
-    (before : List (List ℕ)) × (before ++ pieces_after 10 (take (end - start) (drop start text)) (drop end text) ≡ pieces 10 text)
-    × (length before ≡ count) × (after_lines k 1 before ≡ Ok a)
-
-pub none_taken : (k : Known) (text : List ℕ) → HasTaken k k 0 0 0 text
-unfolding after_lines
-none_taken k text = ([], refl, refl, refl)
-
-pub one_taken : (k a b : Known) (count start end : ℕ) (text : List ℕ) → start ≤ end → end < length text → get_or text end 0 ≡ 10
-    → in_line (count + 1) (judged a (take (end - start) (drop start text))) ≡ Ok b → HasTaken k a count start end text → HasTaken k b (count + 1) (end + 1) (end + 1) text
-one_taken k a b count start end text h l e good (before, parts, n, known) =
-    let line = take (end - start) (drop start text) in (
-      before ++ line ∷ [],
-      next_line before text start end h l e parts,
-      omega (arith, n, length-append before (line ∷ [])),
-      after_good k a b (count + 1) before line known (omega (arith, n)) good,
-    )
-
-pub none_ended : (k a : Known) (count start end : ℕ) (text : List ℕ) → start ≤ end → end < length text → (get_or text end 0 ≡ 10 → ⊥)
-    → HasTaken k a count start end text → HasTaken k a count start (end + 1) text
-none_ended k a count start end text h l e (before, parts, n, known) = (before, goes_on before 10 text start end h l e parts, n, known)
-
--- a line has a fault
-pub one_stops : (k a : Known) (count start end : ℕ) (text : List ℕ) (e : ScriptFault) → start ≤ end → end < length text → get_or text end 0 ≡ 10
-    → Agrees {A = Unit {0}} {B = Known} (λ _. k) (Err e) (in_line (count + 1) (judged a (take (end - start) (drop start text)))) → HasTaken k a count start end text
-    → Agrees {A = Unit {0}} {B = Known} (λ _. k) (Err e) (after_lines k 1 (ended_lines text))
-one_stops k a count start end text (fault.Script line found) h l e bad (before, parts, n, known) =
-    let (more, begins) = ended_begin before text start end h l e parts in
-    ap (after_lines k 1) begins ∙ after_bad k a (count + 1) before more (take (end - start) (drop start text)) (record { line = line; code = found }) known (omega (arith, n)) bad
-one_stops k a count start end text fault.Read h l e bad taken = bad
-one_stops k a count start end text (fault.Write written) h l e bad taken = bad
-one_stops k a count start end text fault.Memory h l e bad taken = bad
-
--- all lines are taken that a line feed ends
-pub all_taken : (k a : Known) (count start end : ℕ) (text : List ℕ) → length text ≤ end → HasTaken k a count start end text
-    → (after_lines k 1 (ended_lines text) ≡ Ok a) × (count ≡ length (ended_lines text)) × (drop start text ≡ last_line text)
-all_taken k a count start end text l (before, parts, n, known) =
-    let all = pieces_end before text start end l parts in
-    let lines = ended_all before text (drop start text) all in
-    (ap (after_lines k 1) lines ∙ known, sym n ∙ ap length (sym lines), sym (last_of_all before text (drop start text) all))
+-- the line without a line feed
+pub lines_one : (text last : List ℕ) (end : ℕ) → last ≡ take (length text - end) (drop end text) → drop end text ≡ last_line text → false ≡ (length last == 0)
+    → lines_of text ≡ ended_lines text ++ last ∷ []
+lines_one text last end is rest some =
+    let same = rest_is text last end is rest in
+    ap (λ b. if b then ended_lines text else ended_lines text ++ last_line text ∷ []) (ap (λ l. length l == 0) (sym same) ∙ sym some)
+    ∙ ap (λ (l : List ℕ). ended_lines text ++ l ∷ []) (sym same)

@@ -6,8 +6,8 @@ pub mod Transactions
 pub mod Sealing
 pub mod Judging
 pub mod Feeds
-pub mod Script
 pub mod Listing
+pub mod Script
 pub mod Events
 pub mod Answers
 pub mod private

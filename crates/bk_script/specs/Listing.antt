@@ -1,30 +1,52 @@
--- What the lines of a text make, taken one after another: a list, or the first line with a fault.
-use Rattle.std.specs.Prelude.{◌≡◌, ℕ, ◌+◌, List, [], ◌∷◌, length, take, nat_le, if◌then◌else◌, Result, Ok, Err}
+-- The lines of a text, and what they make, taken one after another: a list, or the first line with a fault.
+use Rattle.std.specs.Prelude.{◌≡◌, ℕ, ◌+◌, ◌-◌, List, [], ◌∷◌, ◌++◌, length, take, nat_le, ◌==◌, if◌then◌else◌, Result, Ok, Err, slice_index_or}
 use Rattle.bk_frames.specs.Device.{Device, Works, Fails}
 use Rattle.bk_results.specs.Devices.{OfText}
 use Rattle.bk_results.specs.declared.lines_fault.LinesFault.{LinesFault}
 use Rattle.bk_results.specs.declared.lines_fault.LinesFault.TheVariants as fault
-use Rattle.bk_script.specs.Script.{ended_lines, lines_of}
+use Rattle.bk_script.specs.Words.{pieces}
 
--- what follows from the list so far, unless a line has a fault
-abbrev pub then_more : {L : Type 0} → Result L ℕ → (L → Result L ℕ) → Result L ℕ
-then_more (Ok list) next = next list
-then_more (Err line) next = Err line
+-- ---- the lines of a text
 
--- the list with what these lines add, where the first has this number; or the first line that has a fault
-unfoldable pub listed : {L : Type 0} → (L → ℕ → List ℕ → Result L ℕ) → L → ℕ → List (List ℕ) → Result L ℕ
+-- the lines that a line feed ends
+abbrev pub ended_lines : List ℕ → List (List ℕ)
+ended_lines text = take (length (pieces 10 text) - 1) (pieces 10 text)
+
+-- the bytes after the last line feed
+abbrev pub last_line : List ℕ → List ℕ
+last_line text = slice_index_or (pieces 10 text) (length (pieces 10 text) - 1) []
+
+-- all lines: the last one may end with the text, where it has bytes
+abbrev pub lines_of : List ℕ → List (List ℕ)
+lines_of text = if length (last_line text) == 0 then ended_lines text else ended_lines text ++ last_line text ∷ []
+
+-- ---- one line after another
+
+-- what follows from what came before, unless a line has a fault
+abbrev pub then_more : {A B E : Type 0} → Result A E → (A → Result B E) → Result B E
+then_more (Ok before) next = next before
+then_more (Err found) next = Err found
+
+-- the list with what these lines add, where the first has this number; or the fault of the first line that has one
+unfoldable pub listed : {L E : Type 0} → (L → ℕ → List ℕ → Result L E) → L → ℕ → List (List ℕ) → Result L E
 listed with_line list n [] = Ok list
 listed with_line list n (line ∷ lines) = then_more (with_line list n line) (λ more. listed with_line more (n + 1) lines)
 
--- a text that crosses the limit in its last line: this line has a fault, unless one that a line feed ends has one
-abbrev pub crossing : {L : Type 0} → (L → ℕ → List ℕ → Result L ℕ) → L → List ℕ → Result L ℕ
-crossing with_line list text = then_more (listed with_line list 1 (ended_lines text)) (λ _. Err (length (lines_of text)))
+-- a text that crosses the limit in its last line: this line has this fault, unless one that a line feed ends has one
+abbrev pub crossing : {L E : Type 0} → (L → ℕ → List ℕ → Result L E) → (ℕ → E) → L → List ℕ → Result L E
+crossing with_line too_long list text =
+    then_more (listed with_line list 1 (ended_lines text)) (λ _. Err (too_long (length (lines_of text))))
 
 -- the list of a text that may have this many bytes, onto one; of a text that is too long, these and one byte more are
 -- looked at
-unfoldable pub listed_within : {L : Type 0} → (L → ℕ → List ℕ → Result L ℕ) → L → ℕ → List ℕ → Result L ℕ
-listed_within with_line list most text =
-    if nat_le (length text) most then listed with_line list 1 (lines_of text) else crossing with_line list (take (most + 1) text)
+unfoldable pub taken_within : {L E : Type 0} → (L → ℕ → List ℕ → Result L E) → (ℕ → E) → L → ℕ → List ℕ → Result L E
+taken_within with_line too_long list most text =
+    if nat_le (length text) most then listed with_line list 1 (lines_of text)
+    else crossing with_line too_long list (take (most + 1) text)
+
+-- the same, where the fault of a line is its number
+abbrev pub listed_within : {L : Type 0} → (L → ℕ → List ℕ → Result L ℕ) → L → ℕ → List ℕ → Result L ℕ
+listed_within with_line list most text = taken_within with_line (λ n. n) list most text
 
 -- a function that uses no device and may be refused memory answers as defined: with this list, or with the line at fault
 abbrev pub Lists : {A L : Type 0} → (A → L) → Result A LinesFault → Result L ℕ → Type 0

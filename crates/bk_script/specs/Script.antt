@@ -1,32 +1,12 @@
 -- What the text of a script makes: the bytes of a feed, or the first fault with its line.
-use Rattle.std.specs.Prelude.{ℕ, ◌+◌, ◌-◌, List, [], ◌∷◌, ◌++◌, length, take, nat_le, ◌==◌, if◌then◌else◌, Option, Some, None, Result, Ok, Err, slice_index_or}
+use Rattle.std.specs.Prelude.{ℕ, ◌+◌, List, length, Option, Some, None, Result, Ok, Err}
 use Rattle.bk_results.specs.declared.script_fault.ScriptCode.{ScriptCode}
 use Rattle.bk_results.specs.declared.script_fault.ScriptCode.TheVariants as code
 use Rattle.bk_script.specs.declared.making.TheConstants.{MOST_SCRIPT}
-use Rattle.bk_script.specs.Words.{pieces}
 use Rattle.bk_script.specs.Known.{Known, nothing_known, closed}
 use Rattle.bk_script.specs.Judging.{judged}
 use Rattle.bk_script.specs.Feeds.{feed_text}
-
--- ---- the lines of a text
-
--- the lines that a line feed ends
-abbrev pub ended_lines : List ℕ → List (List ℕ)
-ended_lines text = take (length (pieces 10 text) - 1) (pieces 10 text)
-
--- the bytes after the last line feed
-abbrev pub last_line : List ℕ → List ℕ
-last_line text = slice_index_or (pieces 10 text) (length (pieces 10 text) - 1) []
-
--- a line more, where it has bytes
-abbrev pub with_line : List (List ℕ) → List ℕ → List (List ℕ)
-with_line lines line = if length line == 0 then lines else lines ++ line ∷ []
-
--- all lines: the last one may end with the text
-abbrev pub lines_of : List ℕ → List (List ℕ)
-lines_of text = with_line (ended_lines text) (last_line text)
-
--- ---- one line after another
+use Rattle.bk_script.specs.Listing.{lines_of, then_more, taken_within}
 
 -- what is wrong with a line, and its number, counted from 1
 pub record LineFault : Type 0 where
@@ -38,15 +18,17 @@ abbrev pub in_line : ℕ → Result Known ScriptCode → Result Known LineFault
 in_line n (Ok k) = Ok k
 in_line n (Err found) = Err (record { line = n; code = found })
 
--- what follows from what is known, unless a line has a fault
-abbrev pub then_from : {A : Type 0} → Result Known LineFault → (Known → Result A LineFault) → Result A LineFault
-then_from (Ok k) next = next k
-then_from (Err found) next = Err found
+-- what is known after the line of this number, or what is wrong with it
+abbrev pub judged_in : Known → ℕ → List ℕ → Result Known LineFault
+judged_in k n line = in_line n (judged k line)
 
--- what is known after these lines, where the first has this number; or the first of them that has a fault
-unfoldable pub after_lines : Known → ℕ → List (List ℕ) → Result Known LineFault
-after_lines k n [] = Ok k
-after_lines k n (line ∷ lines) = then_from (in_line n (judged k line)) (λ after. after_lines after (n + 1) lines)
+-- the fault of the line in which a text crosses its limit
+abbrev pub too_long : ℕ → LineFault
+too_long n = record { line = n; code = code.Range }
+
+-- what is known after the lines of a text that may have this many bytes
+abbrev pub known_within : Known → ℕ → List ℕ → Result Known LineFault
+known_within k most text = taken_within judged_in too_long k most text
 
 -- ---- the whole text
 
@@ -59,21 +41,9 @@ feed_with n k (Some weights) = Ok (feed_text k.version weights k.accounts k.body
 abbrev pub feed_after : ℕ → Known → Result (List ℕ) LineFault
 feed_after lines k = feed_with (lines + 1) (closed k) (closed k).weights
 
--- the feed of lines
-abbrev pub feed_of_lines : List (List ℕ) → Result (List ℕ) LineFault
-feed_of_lines lines = then_from (after_lines nothing_known 1 lines) (λ k. feed_after (length lines) k)
-
--- a text that crosses the limit in its last line: this is a fault of the range, unless a line that a line feed ends has
--- a fault
-abbrev pub crossing : List ℕ → Result (List ℕ) LineFault
-crossing text =
-    then_from (after_lines nothing_known 1 (ended_lines text))
-    (λ k. Err (record { line = length (lines_of text); code = code.Range }))
-
--- the feed of a text that may have this many bytes; of one that is too long, these and one byte more are looked at
+-- the feed of a text that may have this many bytes
 unfoldable pub feed_within : ℕ → List ℕ → Result (List ℕ) LineFault
-feed_within most text =
-    if nat_le (length text) most then feed_of_lines (lines_of text) else crossing (take (most + 1) text)
+feed_within most text = then_more (known_within nothing_known most text) (λ k. feed_after (length (lines_of text)) k)
 
 -- the feed of the text of a script
 abbrev pub feed_of : List ℕ → Result (List ℕ) LineFault

@@ -1,15 +1,14 @@
 //! Lists that are read one line after another.
 
-ghost use Rattle.std.specs.Prelude.{◌≡◌, ◌+◌, ◌≤◌, ◌<◌, ◌^◌, length, drop, IfOk, IfErr, Result, ℕ, List};
+ghost use Rattle.std.specs.Prelude.{◌+◌, ◌≤◌, ◌<◌, ◌^◌, length, IfOk, IfErr, Result, ℕ, List};
 ghost use Rattle.bk_frames.specs.Device.{CanBeUsed};
-ghost use Rattle.bk_script.specs.Script.{ended_lines, last_line};
-ghost use Rattle.bk_script.specs.Listing.{HasList, HasNoList, Lists, listed, listed_within};
+ghost use Rattle.bk_script.specs.Listing.{HasList, HasNoList, Lists, listed_within};
 ghost use Rattle.bk_script.specs.private.Listing.{HasNoText};
 ghost use Rattle.bk_script.specs.Answers.{HasRead};
 
 use crate::fault::ScriptFault;
-use crate::making::{Ended, PIECE};
-use crate::reading::read_text;
+use crate::making::PIECE;
+use crate::reading::{crosses, line_end, read_text};
 use bk_frames::Source;
 use bk_results::LinesFault;
 use std::alloc::Global;
@@ -29,28 +28,6 @@ pub trait LineList: Drop {
             (with_line (value self.old) number line.now) };
 }
 
-// Takes the lines that a line feed ends.
-fn take_ended<L: LineList>(alloc: Global, list: &mut L, text: &[u8]) -> Result<Ended, LinesFault>
-    requires few { length text.now < 2 ^ 32 }
-    ensures lines { Lists (λ _. L.value list.new) result
-        (listed L.with_line (L.value list.old) 1 (ended_lines text.now)) }
-    ensures count { IfOk result (λ ended. (ended.count ≡ length (ended_lines text.now))
-        × (ended.count ≤ length text.now)) }
-    ensures rest { IfOk result (λ ended. (ended.end ≤ length text.now)
-        × (drop ended.end text.now ≡ last_line text.now)) }
-{
-    let mut count: u64 = 0;
-    let mut start = 0;
-    for end in 0..text.len() {
-        if text[end] == b'\n' {
-            count += 1;
-            list.take_line(alloc, count as u32, &text[start..end])?;
-            start = end + 1;
-        }
-    }
-    Ok(Ended { count, end: start })
-}
-
 // Takes the lines of a text that may have `most` bytes. Of a longer one, these and one byte more are enough.
 fn take_text<L: LineList>(
     alloc: Global,
@@ -63,21 +40,22 @@ fn take_text<L: LineList>(
     ensures { Lists (λ _. L.value list.new) result
         (listed_within L.with_line (L.value list.old) most text.now) }
 {
-    let ended = take_ended(alloc, list, text)?;
-    let last = &text[ended.end..];
-    if last.is_empty() {
-        if text.len() > most {
-            return Err(LinesFault::Line {
-                line: ended.count as u32,
-            });
+    let mut count: u32 = 0;
+    let mut start = 0;
+    while start < text.len() {
+        let end = line_end(text, start);
+        let line = count + 1;
+        if crosses(text, end, most) {
+            return Err(LinesFault::Line { line });
         }
-        return Ok(());
+        list.take_line(alloc, line, &text[start..end])?;
+        count = line;
+        start = end + 1;
     }
-    let line = ended.count as u32 + 1;
     if text.len() > most {
-        return Err(LinesFault::Line { line });
+        return Err(LinesFault::Line { line: count });
     }
-    list.take_line(alloc, line, last)
+    Ok(())
 }
 
 // The text that a source gives, as far as it is looked at.

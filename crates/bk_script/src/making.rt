@@ -1,16 +1,15 @@
 //! The feed of a script: its text is read whole, its lines are taken in turn, and the feed is written.
 
-ghost use Rattle.std.specs.Prelude.{◌≡◌, ◌+◌, ◌≤◌, ◌<◌, ◌^◌, length, drop, OnOk, IfOk, IfErr};
+ghost use Rattle.std.specs.Prelude.{◌≡◌, ◌+◌, ◌≤◌, ◌<◌, ◌^◌, length, OnOk, IfOk, IfErr};
 ghost use Rattle.bk_frames.specs.Device.{CanBeUsed, Works};
 ghost use Rattle.bk_results.specs.Devices.{OfText};
 ghost use Rattle.bk_script.specs.Answers.{FailsBy, IsMade, devices};
-ghost use Rattle.bk_script.specs.Judging.{judged};
-ghost use Rattle.bk_script.specs.Known.{nothing_known};
-ghost use Rattle.bk_script.specs.Script.{after_lines, ended_lines, feed_after, feed_within, in_line, last_line};
+ghost use Rattle.bk_script.specs.Listing.{lines_of};
+ghost use Rattle.bk_script.specs.Script.{feed_after, feed_within, judged_in, known_within};
 ghost use Rattle.bk_script.specs.private.Agreeing.{IsFeedFrom, IsNoFeedFrom, Agrees};
 
 use crate::fault::{ScriptCode, ScriptFault, Stop};
-use crate::reading::read_text;
+use crate::reading::{crosses, line_end, read_text};
 use crate::script::Script;
 use bk_frames::{Sink, Source, push_all};
 use std::alloc::Global;
@@ -23,7 +22,7 @@ pub(crate) const PIECE: usize = 65_536;
 
 // Takes the line of this number.
 fn take_line(script: &mut Script, number: u64, line: &[u8]) -> Result<(), ScriptFault>
-    ensures { Agrees (λ _. script.new) result (in_line number (judged script.old line.now)) }
+    ensures { Agrees (λ _. script.new) result (judged_in script.old number line.now) }
 {
     match script.take(line) {
         Ok(()) => Ok(()),
@@ -32,32 +31,31 @@ fn take_line(script: &mut Script, number: u64, line: &[u8]) -> Result<(), Script
     }
 }
 
-/// How many lines of a text a line feed ends, and where the rest begins.
-#[derive(Clone, Copy)]
-pub(crate) struct Ended {
-    pub(crate) count: u64,
-    pub(crate) end: usize,
-}
-
-// Takes the lines that a line feed ends.
-fn take_ended(script: &mut Script, text: &[u8]) -> Result<Ended, ScriptFault>
-    ensures lines { Agrees (λ _. script.new) result
-        (after_lines script.old 1 (ended_lines text.now)) }
-    ensures count { IfOk result (λ ended. (ended.count ≡ length (ended_lines text.now))
-        × (ended.count ≤ length text.now)) }
-    ensures rest { IfOk result (λ ended. (ended.end ≤ length text.now)
-        × (drop ended.end text.now ≡ last_line text.now)) }
+// Takes the lines of a text that may have `most` bytes, and returns how many there are.
+fn take_text(script: &mut Script, text: &[u8], most: usize) -> Result<u64, ScriptFault>
+    requires few { length text.now ≤ most + 1 }
+    requires most { most < 2 ^ 31 }
+    ensures known { Agrees (λ _. script.new) result (known_within script.old most text.now) }
+    ensures count { IfOk result (λ lines. (lines ≡ length (lines_of text.now)) × (lines < 2 ^ 32)) }
 {
     let mut count = 0;
     let mut start = 0;
-    for end in 0..text.len() {
-        if text[end] == b'\n' {
-            count += 1;
-            take_line(script, count, &text[start..end])?;
-            start = end + 1;
+    while start < text.len() {
+        let end = line_end(text, start);
+        let line = count + 1;
+        if crosses(text, end, most) {
+            let code = ScriptCode::Range;
+            return Err(ScriptFault::Script { line, code });
         }
+        take_line(script, line, &text[start..end])?;
+        count = line;
+        start = end + 1;
     }
-    Ok(Ended { count, end: start })
+    if text.len() > most {
+        let code = ScriptCode::Range;
+        return Err(ScriptFault::Script { line: count, code });
+    }
+    Ok(count)
 }
 
 // The feed of what is known after this many lines.
@@ -76,39 +74,16 @@ fn feed_after(script: &mut Script, lines: u64) -> Result<Vec<u8>, ScriptFault>
     }
 }
 
-// The feed of a text, by a script that knows nothing before it.
-#[tactic(auto, unfolding(crate::specs::Script::feed_within))]
-fn feed_by(script: &mut Script, text: &[u8], most: usize) -> Result<Vec<u8>, ScriptFault>
-    requires nothing { script.old ≡ nothing_known }
-    requires few { length text.now ≤ most + 1 }
-    requires most { most < 2 ^ 31 }
-    ensures { Agrees (λ feed. feed.items) result (feed_within most text.now) }
-{
-    let ended = take_ended(script, text)?;
-    let last = &text[ended.end..];
-    let lines = if last.is_empty() {
-        ended.count
-    } else {
-        ended.count + 1
-    };
-    if text.len() > most {
-        let code = ScriptCode::Range;
-        return Err(ScriptFault::Script { line: lines, code });
-    }
-    if !last.is_empty() {
-        take_line(script, lines, last)?;
-    }
-    feed_after(script, lines)
-}
-
 /// The feed of a text that may have `most` bytes. Of a longer one, these and one byte more are enough.
+#[tactic(auto, unfolding(crate::specs::Script::feed_within))]
 pub(crate) fn feed_within(alloc: Global, text: &[u8], most: usize) -> Result<Vec<u8>, ScriptFault>
     requires few { length text.now ≤ most + 1 }
     requires most { most < 2 ^ 31 }
     ensures { Agrees (λ feed. feed.items) result (feed_within most text.now) }
 {
     let mut script = Script::new(alloc)?;
-    feed_by(&mut script, text, most)
+    let lines = take_text(&mut script, text, most)?;
+    feed_after(&mut script, lines)
 }
 
 // The feed of the script that a source gives, whose text may have `most` bytes.

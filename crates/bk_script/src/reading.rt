@@ -1,8 +1,9 @@
-//! Reading a text of bounded length from a source.
+//! Reading a text of bounded length from a source, and its lines.
 
-ghost use Rattle.std.specs.Prelude.{◌+◌, ◌<◌, ◌^◌, length, IfOk, IfErr};
+ghost use Rattle.std.specs.Prelude.{◌≡◌, ◌+◌, ◌<◌, ◌^◌, ◌==◌, ◌&&◌, nat_lt, length, IfOk, IfErr};
 ghost use Rattle.bk_frames.specs.Device.{CanBeUsed};
 ghost use Rattle.bk_script.specs.Answers.{HasRead, IsNotRead};
+ghost use Rattle.bk_script.specs.private.LineEnds.{IsLine};
 
 use crate::fault::ScriptFault;
 use bk_frames::Source;
@@ -35,4 +36,24 @@ pub fn read_text<S: Source>(
         text.extend_from_slice(&piece[..count])?;
     }
     Ok(text)
+}
+
+/// Where the line that begins at `start` ends: before the next line feed, or with the text.
+pub(crate) fn line_end(text: &[u8], start: usize) -> usize
+    requires { start < length text.now }
+    ensures { IsLine text.now start result }
+{
+    for end in start..text.len() {
+        if text[end] == b'\n' {
+            return end;
+        }
+    }
+    text.len()
+}
+
+/// Whether a text is too long, and the line that ends here is its last one.
+pub(crate) fn crosses(text: &[u8], end: usize, most: usize) -> bool
+    ensures { result ≡ (nat_lt most (length text.now) && end == length text.now) }
+{
+    text.len() > most && end == text.len()
 }

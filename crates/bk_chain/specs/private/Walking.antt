@@ -1,7 +1,7 @@
 -- What the private functions that read a text of links say.
 use Rattle.std.specs.Prelude.{◌≡◌, ℕ, ◌+◌, ◌≤◌, List, [], ◌∷◌, ◌++◌, All, length, map, drop, Result, Ok, Err}
 use Rattle.bk_frames.specs.Device.{Device, Works, Fails}
-use Rattle.bk_script.specs.Script.{ended_lines, last_line}
+use Rattle.bk_script.specs.Listing.{ended_lines, last_line}
 use Rattle.bk_chain.specs.declared.fault.ChainFault.{ChainFault}
 use Rattle.bk_chain.specs.declared.fault.ChainFault.TheVariants as fault
 use Rattle.bk_chain.specs.declared.link.LinkValue.{LinkValue}

@@ -1,25 +1,33 @@
-use Rattle.std.proofs.Common.{refl}
+use Rattle.std.proofs.Common.{arith}
 use Rattle.std.proofs.lemmas.Result.{err_from_is_err_and}
-use Rattle.bk_script.proofs.WholeLists.{ended_stops, all_ended, crosses_ended, crosses_last, last_listed}
+use Rattle.bk_script.proofs.ListLines.{none_taken, one_taken, crosses_there, all_taken, all_cross}
+use Rattle.bk_script.proofs.WholeLists.{list_stops}
 use Rattle.bk_script.proofs.listing.take_text.Goals as goal
 
-pub returns-in_err-ended : goal.returns-in_err-ended
-returns-in_err-ended g c =
+pub loop-start-init : goal.loop-start-init
+loop-start-init g c = record {
+  few = omega arith;
+  within = omega arith;
+  taken = none_taken g.L.LineList.with_line (λ n. n) c.args.most (g.L.LineList.value c.args.list.now) c.args.text.now c.requires.few;
+}
+
+pub returns-then-crosses : goal.returns-then-crosses
+returns-then-crosses g c = crosses_there g.L.LineList.with_line (λ n. n) c.args.most (g.L.LineList.value c.args.list.now) (g.L.LineList.value c.loop-start.list) c.loop-start.count c.loop-start.start c.line_end-end.result c.args.text.now c.line_end-end.ensures c.loop-start.invariant.taken c.if-crosses.ensures
+
+pub returns-in_err-take_line : goal.returns-in_err-take_line
+returns-in_err-take_line g c =
     let p = err_from_is_err_and c.from_residual.result c.from_residual.ensures.1 in
-    rw (p.1, p.2) (ended_stops g.L.LineList.with_line (g.L.LineList.value c.args.list.now) (g.L.LineList.value c.take_ended.new.list) c.args.most c.args.text.now c.in_err-ended.field-0.0 c.requires.few c.in_err-ended.ensures.lines)
+    rw (p.1, p.2) (list_stops g.L.LineList.with_line (g.L.LineList.value c.args.list.now) c.args.most (g.L.LineList.value c.loop-start.list) c.loop-start.count c.loop-start.start c.line_end-end.result c.args.text.now c.in_err-take_line.field-0.0 c.line_end-end.ensures c.loop-start.invariant.taken c.if-crosses.ensures c.in_err-take_line.ensures)
+
+pub loop-start-preserved : goal.loop-start-preserved
+loop-start-preserved g c = record {
+  few = omega (arith, c.loop-start.invariant.few, c.line_end-end.ensures.from);
+  within = omega (arith, c.line_end-end.ensures.within);
+  taken = one_taken g.L.LineList.with_line (λ n. n) c.args.most (g.L.LineList.value c.args.list.now) (g.L.LineList.value c.loop-start.list) c.loop-start.count c.loop-start.start c.line_end-end.result c.args.text.now c.line_end-end.ensures c.loop-start.invariant.taken c.if-crosses.ensures (g.L.LineList.value c.take_line.new.self) c.in_ok-take_line.ensures;
+}
 
 pub returns-then-text-most : goal.returns-then-text-most
-returns-then-text-most g c =
-    crosses_ended g.L.LineList.with_line (g.L.LineList.value c.args.list.now) (g.L.LineList.value c.take_ended.new.list) c.args.most c.in_ok-ended.ended.count c.in_ok-ended.ended.end c.args.text.now _ c.if-text-most.true c.requires.few c.in_ok-ended.ensures.lines c.in_ok-ended.ensures.count.0 refl c.in_ok-ended.ensures.rest.1 c.if-is_empty.ensures
-
-pub returns-then-is_empty : goal.returns-then-is_empty
-returns-then-is_empty g c =
-    all_ended g.L.LineList.with_line (g.L.LineList.value c.args.list.now) (g.L.LineList.value c.take_ended.new.list) c.args.most c.in_ok-ended.ended.end c.args.text.now _ c.if-text-most.false c.in_ok-ended.ensures.lines refl c.in_ok-ended.ensures.rest.1 c.if-is_empty.ensures
-
-pub returns-then-text-most-2 : goal.returns-then-text-most-2
-returns-then-text-most-2 g c =
-    crosses_last g.L.LineList.with_line (g.L.LineList.value c.args.list.now) (g.L.LineList.value c.take_ended.new.list) c.args.most c.in_ok-ended.ended.count c.in_ok-ended.ended.end c.args.text.now _ c.if-text-most-2.true c.requires.few c.in_ok-ended.ensures.lines c.in_ok-ended.ensures.count.0 refl c.in_ok-ended.ensures.rest.1 c.if-is_empty.ensures
+returns-then-text-most g c = all_cross g.L.LineList.with_line (λ n. n) c.args.most (g.L.LineList.value c.args.list.now) (g.L.LineList.value c.loop-start.list) c.loop-start.count c.loop-start.start c.args.text.now (omega (arith, c.loop-start-test.false)) c.loop-start.invariant.taken c.if-text-most.true
 
 pub returns : goal.returns
-returns g c =
-    last_listed g.L.LineList.with_line (g.L.LineList.value c.args.list.now) (g.L.LineList.value c.take_ended.new.list) (g.L.LineList.value c.take_line.new.self) c.take_line.result c.args.most c.in_ok-ended.ended.count c.in_ok-ended.ended.end c.args.text.now _ c.if-text-most-2.false c.in_ok-ended.ensures.lines c.in_ok-ended.ensures.count.0 refl c.in_ok-ended.ensures.rest.1 c.if-is_empty.ensures c.take_line.ensures
+returns g c = all_taken g.L.LineList.with_line (λ n. n) c.args.most (g.L.LineList.value c.args.list.now) (g.L.LineList.value c.loop-start.list) c.loop-start.count c.loop-start.start c.args.text.now (omega (arith, c.loop-start-test.false)) c.loop-start.invariant.taken (omega (arith, c.if-text-most.false))
