@@ -5,11 +5,10 @@ use crate::line::Line;
 use crate::listing::read_accounts;
 use crate::payment::{Asked, Kind, PaymentRow, make_row};
 use crate::posting::{Posting, make_row as make_posting};
-use crate::text::put_batches;
+use crate::text::batches_text;
 use bk_cert::CertRef;
 use bk_digest::Digest32;
 use bk_frames::Counted;
-use bk_report::Page;
 use bk_results::LinesFault;
 use bk_rules::{Account, Status};
 use bk_views::{Entry, Role};
@@ -41,11 +40,8 @@ fn batches_are_rows(rt: HostRuntime) -> Result<(), Fail> {
         count: Some(65_535),
         ..first
     };
-    let mut sink = Counted::new(Vec::new(rt.alloc()));
-    let mut page = Page::new(rt.alloc())?;
-    let mut line = Line::new(rt.alloc())?;
-    put_batches(&mut sink, &mut page, &mut line, &[first, second])?;
-    assert!(rt; sink.into_inner().as_slice() == TABLE);
+    let text = batches_text(rt.alloc(), &[first, second])?;
+    assert!(rt; text.as_slice() == TABLE);
     Ok(())
 }
 
