@@ -40,10 +40,6 @@ use Rattle.bk_rules.proofs.Stores.{get-set_same, get-set_other, index_reads, bal
 
 -- ---- one slot
 
-shown_one : (o : Option Account) → option_and_then (λ (a : Account). Some a) o ≡ o
-shown_one None = refl
-shown_one (Some a) = refl
-
 module _ (ids : List ℕ) (up : IsTrue (is_ascending ids)) where
   -- the account at an index
   pub slot_at : (numbers : List Account) → length numbers ≡ length ids → (k : ℕ) → k < length ids → account_at (rows_shown One ids numbers) (get_or ids k 0) ≡ Some (numbers_at numbers k)

@@ -131,12 +131,6 @@ guard_there ds up view None (Some p) at test = absurd (cc)
 guard_there ds up view (Some g) None at test = absurd at
 guard_there ds up view (Some g) (Some p) at test = ap₂ test (sym at.1) (seen_at ds up view g.id p.at at.0)
 
--- the guard's place is in range
-pub guard_low : (ds : List Declared) (g : Option Guard) (p : Option FloorAt) → GuardIsAt ds g p → IfSome p (λ q. q.at < length ds)
-guard_low ds g None at = tt
-guard_low ds None (Some p) at = absurd (cc)
-guard_low ds (Some g) (Some p) at = let there = at.0 in there.in_range
-
 -- at most and not below are one
 pub least_test : (m n : ℕ) → not (ltb n m) ≡ leb m n
 least_test m n = by_test (leb m n) refl

@@ -57,10 +57,6 @@ here c r id rest false false same e f = refl
 here c r id rest true false same e f = absurd (grind (arith, nat_tests))
 here c r id rest false true same e f = absurd (grind (arith, nat_tests))
 
--- a lookup in rows that begin with this one
-abbrev first_or : Bool → Row → Option Account → Option Account
-first_or b r rest = cond b (Some (account_of r)) rest
-
 pub look_first : (r : Row) (rows : List Row) (id : ℕ) → account_at (r ∷ rows) id ≡ cond (eqb r.id id) (Some (account_of r)) (account_at rows id)
 look_first r rows id = by_test (eqb r.id id)
   where

@@ -6,13 +6,11 @@ ghost use Rattle.bk_base.specs.Numbers.{is_ascending};
 ghost use Rattle.bk_rules.specs.private.Slots.{index_or_len};
 
 use crate::hints::Hints;
+use crate::run::BLOCK;
 use bk_tx::{Declarations, MOST_DECLARED, Tx};
 use std::alloc::{AllocError, Global};
 use std::marker::Model;
 use std::sync::Arc;
-
-// How many transactions are looked up together: reads that depend on none before them overlap.
-const BLOCK: usize = 512;
 
 // What holders of the same ids share.
 #[derive(Debug, Drop)]
@@ -195,11 +193,6 @@ impl Ids {
         } else {
             self.index_near(id, near)
         }
-    }
-
-    // A likely index of an id: what is asked of its slot alone, whatever is at that index.
-    pub(crate) fn likely(&self, id: u64) -> u32 {
-        self.table.hints.slot(id)
     }
 }
 

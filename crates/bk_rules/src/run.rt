@@ -1,3 +1,5 @@
+//! Transactions, one after another.
+
 ghost use Rattle.std.specs.Prelude.{◌≡◌, true, length, IfOk, OnOk, OnErr};
 ghost use Rattle.bk_rules.specs.Fold.{state_after, receipts_of, HasRoom};
 ghost use Rattle.bk_rules.specs.Ledger.{ledger_of, are_covered};
@@ -5,7 +7,7 @@ ghost use Rattle.bk_rules.specs.Ledger.{ledger_of, are_covered};
 use crate::account::Account;
 use crate::receipt::PackedReceipt;
 use crate::state::State;
-use bk_tx::{MOST_DECLARED, Tx};
+use bk_tx::Tx;
 use std::alloc::{AllocError, Global};
 
 // How many transactions are looked up together: reads that depend on none before them overlap.
@@ -47,29 +49,20 @@ pub fn run_near(
     ensures unchanged { OnErr result (state.new ≡ state.old) }
 {
     let mut receipts = Vec::with_capacity(alloc, txs.len())?;
-    let mut found = Vec::with_capacity(alloc, room_to_find(txs, known))?;
-    let mut at = 0usize;
+    let mut kept = Vec::with_capacity(alloc, 1)?;
+    let mut found = Vec::new(alloc);
+    if known.is_empty() {
+        state.ids().push_likely(&mut found, txs)?;
+    }
+    let mut near = either(known, &found);
     for (i, tx) in txs.iter().enumerate() {
         if i % BLOCK == 0 {
-            at = begin_block(&mut found, state, &txs[i..], known, at);
+            load_block(&mut kept, state, near);
         }
-        let near = near_from(either(known, &found), at);
         receipts.push(PackedReceipt::of(state.apply_near(tx.as_ref(), near)))?;
-        at = at.saturating_add(count_of(tx.as_ref()));
+        near = near_from(near, count_of(tx.as_ref()));
     }
     Ok(receipts)
-}
-
-// How many indexes of a block are found here at most, and one more.
-fn room_to_find(txs: &[Option<Tx>], known: &[u32]) -> usize {
-    if known.is_empty() {
-        txs.len()
-            .min(BLOCK)
-            .saturating_mul(MOST_DECLARED)
-            .saturating_add(1)
-    } else {
-        1
-    }
 }
 
 // The indexes that are known, or else those that were found.
@@ -77,46 +70,17 @@ fn either<'a>(known: &'a [u32], found: &'a [u32]) -> &'a [u32] {
     if known.is_empty() { found } else { known }
 }
 
-// Begins a block, and returns where its indexes begin: loads the ids and rows at those that are known, or finds them.
-// Another thread found them, so they are in the caches of its processor and not of this one.
-fn begin_block(
-    found: &mut Vec<u32>,
-    state: &State,
-    txs: &[Option<Tx>],
-    known: &[u32],
-    at: usize,
-) -> usize {
-    if known.is_empty() {
-        look_up(found, state, txs);
-        return 0;
-    }
-    let block = block_of(known, at);
+// Loads the ids and rows of a block whose likely indexes begin here: the thread that found them may be another. Their sum is
+// kept, since a load whose value nobody keeps would not be made. Most transactions declare two accounts.
+fn load_block(kept: &mut Vec<u32>, state: &State, near: &[u32]) {
+    let block = match near.get(..2 * BLOCK) {
+        Some(block) => block,
+        None => near,
+    };
     let sum = sum_of_ids(state.ids().as_slice(), block);
     let sum = sum.wrapping_add(sum_of_seqs(state.numbers(), block));
-    found.clear();
-    let _ = found.push(sum);
-    at
-}
-
-// The indexes of a block that begin here, where each transaction declares two accounts, as most do.
-fn block_of(known: &[u32], at: usize) -> &[u32] {
-    match known.get(at..at.saturating_add(2 * BLOCK)) {
-        Some(block) => block,
-        None => near_from(known, at),
-    }
-}
-
-// Finds the likely indexes of all accounts that the first transactions declare, and loads the rows there. The sum of
-// them is put behind the indexes, where it is not read: a load whose value nobody keeps would not be made.
-//
-// There is memory for all of them. If there were none, look-ups would take longer.
-fn look_up(near: &mut Vec<u32>, state: &State, txs: &[Option<Tx>]) {
-    near.clear();
-    let count = txs.len().min(BLOCK);
-    if state.ids().push_likely(near, &txs[..count]).is_ok() {
-        let sum = sum_of_seqs(state.numbers(), near);
-        let _ = near.push(sum);
-    }
+    kept.clear();
+    let _ = kept.push(sum);
 }
 
 // The sum of some ids, as far as it fits.

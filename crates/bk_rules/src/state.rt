@@ -174,8 +174,7 @@ impl State {
             (option_copied tx.entry) self.old.rows).receipt }
         ensures after { self.new ≡ after_of self.old (option_copied tx.entry) }
     {
-        let near = tx.map_or([0; 8], |tx| likely_places(&self.ids, tx.declared()));
-        self.apply_near(tx, &near)
+        self.apply_near(tx, &[])
     }
 
     // The same, where the declared accounts have the first of these indexes, most likely.
@@ -328,15 +327,6 @@ fn have_slots(ids: &Ids, declared: &Declarations) -> bool
         }
     }
     true
-}
-
-// A likely index of each declared account.
-fn likely_places(ids: &Ids, declared: &Declarations) -> [u32; 8] {
-    let mut places = [0; 8];
-    for k in 0..declared.len() {
-        places[k] = ids.likely(declared.get(k).id);
-    }
-    places
 }
 
 // Finds the index of each declared account, or the number of ids where it has no slot, by likely ones.
