@@ -17,7 +17,7 @@ use Rattle.bk_rounds.specs.Admission.{IsFit, AreFit, IsPresent, last_round}
 use Rattle.bk_rounds.specs.Members.{Has}
 use Rattle.bk_rounds.specs.private.Numbered.{id_of, round_of, author_of, cert_of, parents_of, is_marked, count_unmarked, IsAdmittedAt, IsTable}
 use Rattle.bk_rounds.specs.private.Names.{set_of, has_id, known_in}
-use Rattle.bk_rounds.specs.private.Tied.{IsSlotOf, IsTied, IsAt, IsPlaced, IsAuthorIn, IsWhole, IsNumberAt, place_at}
+use Rattle.bk_rounds.specs.private.Tied.{IsSlotOf, IsTied, IsAt, IsPlaced, IsAuthorIn, IsTold, IsWhole, IsNumberAt, place_at}
 use Rattle.bk_rounds.specs.declared.waking.Pending.{Pending}
 use Rattle.bk_cert.proofs.Lists.{from_map, in_map, none_in_nil}
 use Rattle.bk_cert.proofs.Refs.{ref_same, equal_from_test, exact_ref, same_place}
@@ -183,12 +183,7 @@ pub record IsAdmitting (n m : Names) (out : List ℕ) (top top' : ℕ) : Type 0 
   pub out_is : (i : ℕ) → Contains out i ↔ ((is_marked m.marks.items i ≡ true) × (is_marked n.marks.items i ≡ false))
   pub sets_same : length m.sets.items ≡ length n.sets.items
   pub waiting : m.unmarked ≡ count_unmarked m.marks.items
-  pub here : (i : ℕ) → Contains out i → (x : ℕ) → Has (set_of m.sets.items i) x ↔ IsAuthorIn m.slots (parents_of m.slots i) x
-  pub other : (i : ℕ) → (Contains out i → ⊥) → set_of m.sets.items i ≡ set_of n.sets.items i
-  pub highest : (i : ℕ) → Contains out i → round_of m.slots i ≤ top'
-  pub more : top ≤ top'
-  pub least : (b : ℕ) → top ≤ b → ((i : ℕ) → Contains out i → round_of m.slots i ≤ b) → top' ≤ b
-  pub reached : (top' ≡ top) ⊎ ((i : ℕ) × Contains out i × (round_of m.slots i ≡ top'))
+  pub told : IsTold m.slots n.sets.items m.sets.items out top top'
 
 -- an admitted number has a round
 marked_round : (z : Sizes) (n : Names) → IsTable z n.slots n.marks.items n.pending → (i : ℕ) → is_marked n.marks.items i ≡ true → 0 < round_of n.slots i
@@ -254,12 +249,12 @@ whole_added z held n m c k slot placed placed' top top' out w h it new free up t
   table = t;
   tied = tied;
   placed = placed_added held n m c k slot h it.from_one placed placed' w.placed w.tied free up;
-  sets = λ i mark x. ⊎_elim (λ was. old_set i was x) (λ was. a.here i ((a.out_is i).1 (mark, was)) x) (cases_Bool (is_marked n.marks.items i));
+  sets = λ i mark x. ⊎_elim (λ was. old_set i was x) (λ was. a.told.here i ((a.out_is i).1 (mark, was)) x) (cases_Bool (is_marked n.marks.items i));
   highest = λ i mark. ⊎_elim
-      (λ was. let e = round_other held n m c k slot h i (not_k i was) in let b = w.highest i was in let l = a.more in omega arith)
-      (λ was. a.highest i ((a.out_is i).1 (mark, was)))
+      (λ was. let e = round_other held n m c k slot h i (not_k i was) in let b = w.highest i was in let l = a.told.more in omega arith)
+      (λ was. a.told.highest_of i ((a.out_is i).1 (mark, was)))
       (cases_Bool (is_marked n.marks.items i));
-  to_last = a.least last_round w.to_last (λ i o.
+  to_last = a.told.least last_round w.to_last (λ i o.
       let (d, at, s) = tied.cert i (marked_round z m t i ((a.out_is i).0 o).0) in
       let l = (good d (held_at (held ++ c ∷ []) (cert_of m.slots i) d at)).to_last in
       omega (arith, l, s.round));
@@ -268,7 +263,7 @@ whole_added z held n m c k slot placed placed' top top' out w h it new free up t
       let (i, was, is) = w.reached (subst (λ (r : ℕ). 0 < r) e some) in
       (i, a.stay i was, round_other held n m c k slot h i (not_k i was) ∙ (is ∙ sym e)))
       (λ (i, o, is). (i, ((a.out_is i).0 o).0, is))
-      a.reached;
+      a.told.reached;
 }
   where
     good : AreFit z (held ++ c ∷ [])
@@ -286,7 +281,7 @@ whole_added z held n m c k slot placed placed' top top' out w h it new free up t
 
     old_set : (i : ℕ) → is_marked n.marks.items i ≡ true → (x : ℕ) → Has (set_of m.sets.items i) x ↔ IsAuthorIn m.slots (parents_of m.slots i) x
     old_set i was x =
-        let same = a.other i (λ o. both_ways _ ((a.out_is i).0 o).1 was) in
+        let same = a.told.other i (λ o. both_ways _ ((a.out_is i).0 o).1 was) in
         let row : parents_of m.slots i ≡ parents_of n.slots i = parents_other held n m c k slot h i (not_k i was) in
         let author : (p : ℕ) → Contains (parents_of n.slots i) p → author_of m.slots p ≡ author_of n.slots p =
         λ p among. author_other held n m c k slot h p (not_k p (parent_round z held n w.good w.tied w.table i p was among)) in
@@ -357,13 +352,9 @@ pub admitting_from : (n m : Names) (out out' : List ℕ) (top top' : ℕ) (marks
     → m.unmarked ≡ count_unmarked m.marks.items
     → ((i : ℕ) → is_marked marks i ≡ true → is_marked marks' i ≡ true)
     → ((i : ℕ) → Contains out i ↔ ((is_marked marks' i ≡ true) × (is_marked marks i ≡ false)))
-    → ((i : ℕ) → Contains out' i → (x : ℕ) → Has (set_of sets' i) x ↔ IsAuthorIn slots' (parents_of slots' i) x)
-    → ((i : ℕ) → (Contains out' i → ⊥) → set_of sets' i ≡ set_of sets i)
-    → ((i : ℕ) → Contains out' i → round_of slots' i ≤ top') → top ≤ top'
-    → ((b : ℕ) → top ≤ b → ((i : ℕ) → Contains out' i → round_of slots' i ≤ b) → top' ≤ b)
-    → (top' ≡ top) ⊎ ((i : ℕ) × Contains out' i × (round_of slots' i ≡ top'))
+    → IsTold slots' sets sets' out' top top'
     → IsAdmitting n m out top top'
-admitting_from n m out out' top top' marks marks' slots' sets sets' e_m e_m' e_s e_t e_t' e_o len waiting stay out_is here other highest more least reached = record {
+admitting_from n m out out' top top' marks marks' slots' sets sets' e_m e_m' e_s e_t e_t' e_o len waiting stay out_is told = record {
   stay = λ i t. ap (λ ms. is_marked ms i) e_m' ∙ stay i (ap (λ ms. is_marked ms i) e_m ∙ t);
   out_is = λ i. (
     (λ o. let h = (out_is i).0 o in (ap (λ ms. is_marked ms i) e_m' ∙ h.0, sym (ap (λ ms. is_marked ms i) e_m) ∙ h.1)),
@@ -371,19 +362,8 @@ admitting_from n m out out' top top' marks marks' slots' sets sets' e_m e_m' e_s
   );
   sets_same = ap length e_t' ∙ (len ∙ ap length e_t);
   waiting = waiting;
-  here = λ i o x. subst (λ (ss : List Slot). Has (set_of m.sets.items i) x ↔ IsAuthorIn ss (parents_of ss i) x) (sym e_s)
-      (subst (λ (ts : List ℕ). Has (set_of ts i) x ↔ IsAuthorIn slots' (parents_of slots' i) x) (sym e_t') (here i (into i o) x));
-  other = λ i none. ap (λ ts. set_of ts i) e_t' ∙ (other i (λ o. none (subst (λ (xs : List ℕ). Contains xs i) e_o o)) ∙ ap (λ ts. set_of ts i) e_t);
-  highest = λ i o. subst (λ (ss : List Slot). round_of ss i ≤ top') (sym e_s) (highest i (into i o));
-  more = more;
-  least = λ b low each. least b low (λ i o. subst (λ (ss : List Slot). round_of ss i ≤ b) e_s (each i (subst (λ (xs : List ℕ). Contains xs i) e_o o)));
-  reached = ⊎_elim (λ e. inl e)
-      (λ (i, o, is). inr (i, subst (λ (xs : List ℕ). Contains xs i) e_o o, ap (λ ss. round_of ss i) e_s ∙ is))
-      reached;
+  told = subst (λ (x : List Slot × List ℕ × List ℕ × List ℕ). IsTold x.0 x.1 x.2 x.3 top top') (λ i. (sym e_s i, e_t i, sym e_t' i, e_o i)) told;
 }
-  where
-    into : (i : ℕ) → Contains out i → Contains out' i
-    into i o = subst (λ (xs : List ℕ). Contains xs i) (sym e_o) o
 
 -- the map of places after a place was put in
 pub place_put : (placed placed' : CertRef → Option ℕ) (c : CertRef) (k : ℕ) → ((q : CertRef) → placed' q ≡ cond (is_eq (place_cmp c q)) (Some k) (placed q))

@@ -17,7 +17,7 @@ use Rattle.bk_rounds.specs.Admission.{IsPresent}
 use Rattle.bk_rounds.specs.Links.{Links}
 use Rattle.bk_rounds.specs.Rounds.{RoundsValue, rounds_with, BecomesPresent}
 use Rattle.bk_rounds.specs.Votes.{IsAnchor, IsAnchorOf, VotesIn, IsVoted, IsLast, WeighExactly}
-use Rattle.bk_rounds.specs.private.Tally.{kept_at, HasEntry, HaveEntries, IsTally, IsCast, IsNewest, AreCounted}
+use Rattle.bk_rounds.specs.private.Tally.{kept_at, HasEntry, HaveEntries, IsTally, IsCast, IsNewest, AreKept, AreCounted}
 use Rattle.bk_rounds.specs.declared.votes.Votes.{Votes}
 use Rattle.bk_rounds.proofs.Admitted.{admitted_held}
 use Rattle.bk_rounds.proofs.Counting.{apart_from_none, weigh-le}
@@ -173,10 +173,10 @@ not_before p h = ⊎_elim (λ lt. omega (arith, lt)) (λ e. omega (arith, e.1)) 
 
 -- the next vote is counted
 pub tally_more : (z : Sizes) (held : List Node) (rest : List CertRef) (p : CertRef) (v w : Votes) → 1 ≤ p.round → IsListed (p ∷ rest) → IsTally z held (p ∷ rest) v
-    → IsCast z held p v w → ((r : ℕ) → r ≢ p.round - 1 → kept_at w r ≡ kept_at v r) → IsTally z held rest w
-tally_more z held rest p v w from listed t cast other round = ⊎_elim
-    (λ e. subst (λ (r : ℕ). WeighExactly z (λ x. VotesIn z held r x × (Contains rest (next_of r x) → ⊥)) (kept_at w r)) (sym e) (here cast))
-    (λ n. subst (WeighExactly z (λ x. VotesIn z held round x × (Contains rest (next_of round x) → ⊥))) (sym (other round n))
+    → IsCast z held p v w → IsTally z held rest w
+tally_more z held rest p v w from listed t cast round = ⊎_elim
+    (λ e. subst (λ (r : ℕ). WeighExactly z (λ x. VotesIn z held r x × (Contains rest (next_of r x) → ⊥)) (kept_at w r)) (sym e) (here cast.here))
+    (λ n. subst (WeighExactly z (λ x. VotesIn z held round x × (Contains rest (next_of round x) → ⊥))) (sym (cast.other round n))
     (exactly_by z (λ x. VotesIn z held round x × (Contains (p ∷ rest) (next_of round x) → ⊥)) (λ x. VotesIn z held round x × (Contains rest (next_of round x) → ⊥)) (kept_at v round)
     (λ x. less round x (λ vote e. n (let f : p.round ≡ round + 1 = ap (λ (q : CertRef). q.round) e in omega (arith, f)))) (t round)))
     (cases_eq round (p.round - 1))
@@ -195,7 +195,7 @@ tally_more z held rest p v w from listed t cast other round = ⊎_elim
     author_is : (x : ℕ) → p ≡ next_of (p.round - 1) x → x ≡ p.author
     author_is x e = sym (ap (λ (q : CertRef). q.author) e)
 
-    here : IsCast z held p v w → WeighExactly z (λ x. VotesIn z held (p.round - 1) x × (Contains rest (next_of (p.round - 1) x) → ⊥)) (kept_at w (p.round - 1))
+    here : (VotesIn z held (p.round - 1) p.author × (kept_at w (p.round - 1) ≡ kept_at v (p.round - 1) + weight z p.author)) ⊎ ((VotesIn z held (p.round - 1) p.author → ⊥) × (kept_at w (p.round - 1) ≡ kept_at v (p.round - 1))) → WeighExactly z (λ x. VotesIn z held (p.round - 1) x × (Contains rest (next_of (p.round - 1) x) → ⊥)) (kept_at w (p.round - 1))
     here (inr (none, same)) =
         let r : ℕ = p.round - 1 in
         subst (WeighExactly z (λ x. VotesIn z held r x × (Contains rest (next_of r x) → ⊥))) (sym same)
@@ -215,12 +215,12 @@ tally_more z held rest p v w from listed t cast other round = ⊎_elim
         )) (t r))
 
 -- and at the end all are
-pub tally_all : (z : Sizes) (held : List Node) (v : Votes) → IsTally z held [] v → IsNewest (faulty z) v → HaveEntries held v → AreCounted z held v
-tally_all z held v t newest entries = record {
+pub tally_all : (z : Sizes) (held : List Node) (v : Votes) → IsTally z held [] v → AreKept z held v → AreCounted z held v
+tally_all z held v t kept = record {
   tally = λ round. exactly_by z (λ x. VotesIn z held round x × (Contains [] (next_of round x) → ⊥)) (VotesIn z held round) (kept_at v round)
       (λ x. ((λ (vote, free). vote), (λ vote. (vote, λ t. none_in_nil (next_of round x) t)))) (t round);
-  newest = newest;
-  entries = entries;
+  newest = kept.newest;
+  entries = kept.entries;
 }
 
 -- nothing is held, and nobody votes

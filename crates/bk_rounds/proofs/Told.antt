@@ -8,17 +8,8 @@ use Rattle.bk_rounds.specs.declared.slots.Slot.{Slot}
 use Rattle.bk_rounds.specs.Members.{Has}
 use Rattle.bk_rounds.specs.private.Numbered.{round_of, author_of, parents_of}
 use Rattle.bk_rounds.specs.private.Names.{set_of}
-use Rattle.bk_rounds.specs.private.Tied.{IsAuthorIn}
+use Rattle.bk_rounds.specs.private.Tied.{IsAuthorIn, IsTold}
 use Rattle.bk_cert.proofs.Lists.{none_in_nil}
-
--- the sets of these are given, the others stay, and the greatest round is known
-pub record IsTold (slots : List Slot) (old new : List ℕ) (done : List ℕ) (top highest : ℕ) : Type 0 where
-  pub here : (k : ℕ) → Contains done k → (x : ℕ) → Has (set_of new k) x ↔ IsAuthorIn slots (parents_of slots k) x
-  pub other : (k : ℕ) → (Contains done k → ⊥) → set_of new k ≡ set_of old k
-  pub highest_of : (k : ℕ) → Contains done k → round_of slots k ≤ highest
-  pub more : top ≤ highest
-  pub least : (m : ℕ) → top ≤ m → ((k : ℕ) → Contains done k → round_of slots k ≤ m) → highest ≤ m
-  pub reached : (highest ≡ top) ⊎ ((k : ℕ) × Contains done k × (round_of slots k ≡ highest))
 
 pub told_none : (slots : List Slot) (sets : List ℕ) (top : ℕ) → IsTold slots sets sets [] top top
 told_none slots sets top = record {
@@ -77,6 +68,3 @@ authors_more slots ps p author set all h is with_it x = (
       (λ same. inr (sym e ∙ (ap (author_of slots) (sym same) ∙ is)))
       (Contains-push_cases ps p q among))),
 )
-
-pub authors_none : (slots : List Slot) (set : ℕ) → ((x : ℕ) → Has set x → ⊥) → (x : ℕ) → Has set x ↔ IsAuthorIn slots [] x
-authors_none slots set none x = ((λ h. absurd (none x h)), (λ (q, among, e). absurd (none_in_nil q among)))

@@ -6,7 +6,7 @@ ghost use Rattle.bk_cert.specs.declared.place.CertRef.{CertRef};
 ghost use Rattle.bk_rounds.specs.Members.{Has};
 ghost use Rattle.bk_rounds.specs.private.Numbered.{IsTable, id_of, round_of, author_of, parents_of, row_of, is_marked, count_unmarked, IsInside};
 ghost use Rattle.bk_rounds.specs.private.Names.{set_of};
-ghost use Rattle.bk_rounds.specs.private.Tied.{IsAuthorIn, place_at};
+ghost use Rattle.bk_rounds.specs.private.Tied.{CanTell, IsAuthorIn, IsTold, place_at};
 
 use crate::members::Members;
 use crate::slots::{Slot, is_ready};
@@ -59,23 +59,11 @@ pub(crate) fn tell(
     answer: &mut Vec<CertRef>,
     top: u32,
 ) -> u32
-    requires inside { All (λ k. k < length slots.now) out.now }
-    requires parents { IsInside slots.now }
-    requires authors { (k p : ℕ) → Contains out.now k → Contains (parents_of slots.now k) p
-        → author_of slots.now p < 128 }
-    requires same { length sets.old ≡ length slots.now }
+    requires can { CanTell slots.now sets.old out.now }
     requires answer { answer.old.items ≡ [] }
     requires room { length out.now ≤ vec_capacity answer.old }
     ensures answer { answer.new.items ≡ map (place_at slots.now) out.now }
-    ensures here { (k : ℕ) → Contains out.now k → (x : ℕ) → Has (set_of sets.new k) x
-        ↔ IsAuthorIn slots.now (parents_of slots.now k) x }
-    ensures other { (k : ℕ) → (Contains out.now k → ⊥) → set_of sets.new k ≡ set_of sets.old k }
-    ensures highest { (k : ℕ) → Contains out.now k → round_of slots.now k ≤ result }
-    ensures more { top ≤ result }
-    ensures least { (m : ℕ) → top ≤ m → ((k : ℕ) → Contains out.now k → round_of slots.now k ≤ m)
-        → result ≤ m }
-    ensures reached { (result ≡ top) ⊎ ((k : ℕ) × Contains out.now k
-        × (round_of slots.now k ≡ result)) }
+    ensures told { IsTold slots.now sets.old sets.new out.now top result }
 {
     let mut highest = top;
     for k in out {

@@ -5,7 +5,7 @@ ghost use Rattle.bk_committee.specs.Sizes.{faulty, total};
 ghost use Rattle.bk_cert.specs.Place.{IsListed};
 ghost use Rattle.bk_cert.specs.declared.place.CertRef.{CertRef};
 ghost use Rattle.bk_rounds.specs.Admission.{IsPresent};
-ghost use Rattle.bk_rounds.specs.private.Tally.{kept_at, HasEntry, HaveEntries, IsTally, IsCast, IsNewest, AreCounted};
+ghost use Rattle.bk_rounds.specs.private.Tally.{kept_at, IsTally, IsCast, IsNewest, IsRaised, CanRaise, AreKept, AreCounted};
 
 use crate::table::Table;
 use bk_cert::CertRef;
@@ -65,13 +65,9 @@ impl Votes {
 
     // Adds this weight to the votes of a round, which has an entry, and answers their weight.
     fn raise(&mut self, round: u32, weight: u64) -> u64
-        requires odd { round % 2 ≡ 1 }
-        requires entry { HasEntry self.old round }
-        requires small { kept_at self.old round + weight < 2 ^ 64 }
-        ensures here { kept_at self.new round ≡ kept_at self.old round + weight }
+        requires { CanRaise self.old round weight }
+        ensures raised { IsRaised round weight self.old self.new }
         ensures is { result ≡ kept_at self.new round }
-        ensures other { (r : ℕ) → r ≢ round → kept_at self.new r ≡ kept_at self.old r }
-        ensures stay { length self.new.weights.items ≡ length self.old.weights.items }
         ensures newest { self.new.newest ≡ self.old.newest }
     {
         let index = (round / 2) as usize;
@@ -82,13 +78,9 @@ impl Votes {
 
     // Adds this weight to the votes of a round, which may make it the newest round that is voted.
     fn cast(&mut self, round: u32, weight: u64, faulty: u64)
-        requires odd { round % 2 ≡ 1 }
-        requires entry { HasEntry self.old round }
-        requires small { kept_at self.old round + weight < 2 ^ 64 }
+        requires can { CanRaise self.old round weight }
         requires newest { IsNewest faulty self.old }
-        ensures here { kept_at self.new round ≡ kept_at self.old round + weight }
-        ensures other { (r : ℕ) → r ≢ round → kept_at self.new r ≡ kept_at self.old r }
-        ensures stay { length self.new.weights.items ≡ length self.old.weights.items }
+        ensures raised { IsRaised round weight self.old self.new }
         ensures newest { IsNewest faulty self.new }
     {
         if self.raise(round, weight) > faulty {
@@ -103,8 +95,7 @@ pub(crate) fn count(table: &Table, votes: &mut Votes, places: &[CertRef])
     requires present { (b : CertRef) → Contains places.now b
         → IsPresent table.now.sizes table.now.held b }
     requires tally { IsTally table.now.sizes table.now.held places.now votes.old }
-    requires newest { IsNewest (faulty table.now.sizes) votes.old }
-    requires entries { HaveEntries table.now.held votes.old }
+    requires kept { AreKept table.now.sizes table.now.held votes.old }
     ensures { AreCounted table.now.sizes table.now.held votes.new }
 {
     for place in places {
@@ -116,12 +107,9 @@ pub(crate) fn count(table: &Table, votes: &mut Votes, places: &[CertRef])
 fn count_one(table: &Table, votes: &mut Votes, place: CertRef)
     requires present { IsPresent table.now.sizes table.now.held place }
     requires light { kept_at votes.old (place.round - 1) ≤ total table.now.sizes }
-    requires newest { IsNewest (faulty table.now.sizes) votes.old }
-    requires entries { HaveEntries table.now.held votes.old }
+    requires kept { AreKept table.now.sizes table.now.held votes.old }
     ensures cast { IsCast table.now.sizes table.now.held place votes.old votes.new }
-    ensures other { (r : ℕ) → r ≢ place.round - 1 → kept_at votes.new r ≡ kept_at votes.old r }
-    ensures newest { IsNewest (faulty table.now.sizes) votes.new }
-    ensures entries { HaveEntries table.now.held votes.new }
+    ensures kept { AreKept table.now.sizes table.now.held votes.new }
 {
     if place.round % 2 == 1 {
         return;

@@ -1,5 +1,5 @@
 -- What is kept by number is what is held.
-use Rattle.std.specs.Prelude.{◌≡◌, ℕ, ◌<◌, ◌≤◌, ◌↔◌, true, false, List, Contains, Option, Some, length, map, slice_index_or}
+use Rattle.std.specs.Prelude.{◌≡◌, ℕ, ◌<◌, ◌≤◌, ◌↔◌, ◌⊎◌, All, true, false, List, Contains, Option, Some, length, map, slice_index_or}
 use Rattle.bk_committee.specs.Sizes.{Sizes, members}
 use Rattle.bk_cert.specs.Node.{Node}
 use Rattle.bk_cert.specs.declared.place.CertRef.{CertRef}
@@ -8,7 +8,7 @@ use Rattle.bk_rounds.specs.declared.names.Names.{Names}
 use Rattle.bk_cert.specs.Clear.{IsClear}
 use Rattle.bk_rounds.specs.Admission.{AreFit, last_round}
 use Rattle.bk_rounds.specs.Members.{Has}
-use Rattle.bk_rounds.specs.private.Numbered.{id_of, round_of, author_of, cert_of, parents_of, is_marked, IsTable}
+use Rattle.bk_rounds.specs.private.Numbered.{id_of, round_of, author_of, cert_of, parents_of, is_marked, IsInside, IsTable}
 use Rattle.bk_rounds.specs.private.Names.{set_of, AreNames}
 
 -- the place of a number's certificate
@@ -41,6 +41,22 @@ pub record IsPlaced (slots : List Slot) (placed : CertRef → Option ℕ) : Type
 -- the author of one of these
 abbrev pub IsAuthorIn : List Slot → List ℕ → ℕ → Type 0
 IsAuthorIn slots ps x = (p : ℕ) × Contains ps p × (author_of slots p ≡ x)
+
+-- these are numbers, so are all parents, the authors of theirs are members, and each number has a set
+pub record CanTell (slots : List Slot) (sets out : List ℕ) : Type 0 where
+  pub inside : All (λ k. k < length slots) out
+  pub parents : IsInside slots
+  pub authors : (k p : ℕ) → Contains out k → Contains (parents_of slots k) p → author_of slots p < 128
+  pub same : length sets ≡ length slots
+
+-- the sets of these are given, the others stay, and the greatest round is known
+pub record IsTold (slots : List Slot) (old new : List ℕ) (done : List ℕ) (top highest : ℕ) : Type 0 where
+  pub here : (k : ℕ) → Contains done k → (x : ℕ) → Has (set_of new k) x ↔ IsAuthorIn slots (parents_of slots k) x
+  pub other : (k : ℕ) → (Contains done k → ⊥) → set_of new k ≡ set_of old k
+  pub highest_of : (k : ℕ) → Contains done k → round_of slots k ≤ highest
+  pub more : top ≤ highest
+  pub least : (m : ℕ) → top ≤ m → ((k : ℕ) → Contains done k → round_of slots k ≤ m) → highest ≤ m
+  pub reached : (highest ≡ top) ⊎ ((k : ℕ) × Contains done k × (round_of slots k ≡ highest))
 
 -- with each admitted one are the authors of its parents
 abbrev pub AreSets : Names → Type 0

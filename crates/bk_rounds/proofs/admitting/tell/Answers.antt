@@ -6,7 +6,7 @@ use Rattle.bk_cert.specs.declared.place.CertRef.{CertRef}
 use Rattle.bk_rounds.specs.declared.slots.Slot.{Slot}
 use Rattle.bk_rounds.specs.Members.{Has}
 use Rattle.bk_rounds.specs.private.Numbered.{author_of, parents_of, round_of}
-use Rattle.bk_rounds.specs.private.Tied.{IsAuthorIn, place_at}
+use Rattle.bk_rounds.specs.private.Tied.{IsAuthorIn, IsTold, place_at}
 use Rattle.bk_cert.proofs.Refs.{same_place}
 use Rattle.bk_rounds.proofs.Named.{map_push}
 use Rattle.bk_rounds.proofs.Told.{told_more, told_none}
@@ -15,7 +15,7 @@ use Rattle.bk_rounds.proofs.admitting.tell.Goals as goal
 
 pub loop-k-init : goal.loop-k-init
 loop-k-init c = record {
-  same = c.requires.same;
+  same = c.requires.can.same;
   room = c.requires.room;
   len = let e = ap length c.requires.answer in omega (arith, e);
   answer = c.requires.answer;
@@ -25,14 +25,14 @@ loop-k-init c = record {
 pub authors_of-requires-clause-inside : goal.authors_of-requires-clause-inside
 authors_of-requires-clause-inside c =
     let k : ℕ = get_or c.args.out.now c.loop-k.k-index 0 in
-    let low : k < length c.args.slots.now = c.requires.inside c.loop-k.k-index 0 c.loop-k-test.true in
-    each_inside c.args.slots.now k c.index-slots-k.result c.deref.result.now c.requires.parents low (sym c.index-slots-k.is) c.deref.ensures.value
+    let low : k < length c.args.slots.now = c.requires.can.inside c.loop-k.k-index 0 c.loop-k-test.true in
+    each_inside c.args.slots.now k c.index-slots-k.result c.deref.result.now c.requires.can.parents low (sym c.index-slots-k.is) c.deref.ensures.value
 
 pub authors_of-requires-clause-few : goal.authors_of-requires-clause-few
 authors_of-requires-clause-few c = λ p t.
     let k : ℕ = get_or c.args.out.now c.loop-k.k-index 0 in
-    let low : k < length c.args.slots.now = c.requires.inside c.loop-k.k-index 0 c.loop-k-test.true in
-    c.requires.authors k p (Contains-get_or c.args.out.now c.loop-k.k-index 0 c.loop-k-test.true)
+    let low : k < length c.args.slots.now = c.requires.can.inside c.loop-k.k-index 0 c.loop-k-test.true in
+    c.requires.can.authors k p (Contains-get_or c.args.out.now c.loop-k.k-index 0 c.loop-k-test.true)
     (subst (λ (ps : List ℕ). Contains ps p) (c.deref.ensures.value ∙ sym (parents_at c.args.slots.now k c.index-slots-k.result low (sym c.index-slots-k.is))) t)
 
 pub push_reserved-requires : goal.push_reserved-requires
@@ -42,7 +42,7 @@ pub loop-k-preserved : goal.loop-k-preserved
 loop-k-preserved c =
     let slots = c.args.slots.now in
     let k : ℕ = get_or c.args.out.now c.loop-k.k-index 0 in
-    let low : k < length slots = c.requires.inside c.loop-k.k-index 0 c.loop-k-test.true in
+    let low : k < length slots = c.requires.can.inside c.loop-k.k-index 0 c.loop-k-test.true in
     let more : take (c.loop-k.k-index + 1) c.args.out.now ≡ take c.loop-k.k-index c.args.out.now ++ k ∷ [] = take_more c.args.out.now c.loop-k.k-index 0 c.loop-k-test.true in
     let row : c.deref.result.now ≡ parents_of slots k = c.deref.ensures.value ∙ sym (parents_at slots k c.index-slots-k.result low (sym c.index-slots-k.is)) in
     let round : round_of slots k ≡ c.index-slots-k.result.round = get_or-map (λ (s : Slot). s.round) slots k c.index-slots-k.result 0 low ∙ ap (λ (s : Slot). s.round) (sym c.index-slots-k.is) in
@@ -63,20 +63,5 @@ loop-k-preserved c =
 pub returns-clause-answer : goal.returns-clause-answer
 returns-clause-answer c = c.loop-k.invariant.answer ∙ ap (map (place_at c.args.slots.now)) (take_all c.loop-k.k-index c.args.out.now (omega arith))
 
-pub returns-clause-here : goal.returns-clause-here
-returns-clause-here c = λ k t. c.loop-k.invariant.told.here k (subst (λ (xs : List ℕ). Contains xs k) (sym (take_all c.loop-k.k-index c.args.out.now (omega arith))) t)
-
-pub returns-clause-other : goal.returns-clause-other
-returns-clause-other c = λ k none. c.loop-k.invariant.told.other k (λ t. none (subst (λ (xs : List ℕ). Contains xs k) (take_all c.loop-k.k-index c.args.out.now (omega arith)) t))
-
-pub returns-clause-highest : goal.returns-clause-highest
-returns-clause-highest c = λ k t. c.loop-k.invariant.told.highest_of k (subst (λ (xs : List ℕ). Contains xs k) (sym (take_all c.loop-k.k-index c.args.out.now (omega arith))) t)
-
-pub returns-clause-least : goal.returns-clause-least
-returns-clause-least c = λ m low each. c.loop-k.invariant.told.least m low
-    (λ k t. each k (subst (λ (xs : List ℕ). Contains xs k) (take_all c.loop-k.k-index c.args.out.now (omega arith)) t))
-
-pub returns-clause-reached : goal.returns-clause-reached
-returns-clause-reached c = ⊎_elim (λ e. inl e)
-    (λ (k, there, is). inr (k, subst (λ (xs : List ℕ). Contains xs k) (take_all c.loop-k.k-index c.args.out.now (omega arith)) there, is))
-    c.loop-k.invariant.told.reached
+pub returns-clause-told : goal.returns-clause-told
+returns-clause-told c = subst (λ (done : List ℕ). IsTold c.args.slots.now c.args.sets.now c.loop-k.sets done c.args.top c.loop-k.highest) (take_all c.loop-k.k-index c.args.out.now (omega arith)) c.loop-k.invariant.told

@@ -1,6 +1,5 @@
 use Rattle.std.proofs.Common.{◌≡◌, ◌≤◌, length, map, take, vec_len, vec_capacity}
-use Rattle.bk_rounds.specs.private.Tied.{place_at}
-use Rattle.bk_rounds.proofs.Told.{IsTold}
+use Rattle.bk_rounds.specs.private.Tied.{IsTold, place_at}
 use Rattle.bk_rounds.proofs.admitting.tell.Given as goal
 
 abbrev pub invariant-loop-k : goal.invariant-loop-k

@@ -26,9 +26,8 @@ loop-place-preserved c =
     let from : 1 ≤ p.round = present_from z held p (c.requires.present p (Contains-get_or all i (record { round = 0; author = 0 }) c.loop-place-test.true)) in
     record {
       listed = listed.1;
-      tally = tally_more z held rest p c.loop-place.votes c.count_one.new.votes from listed tally c.count_one.ensures.cast c.count_one.ensures.other;
-      newest = c.count_one.ensures.newest;
-      entries = c.count_one.ensures.entries;
+      tally = tally_more z held rest p c.loop-place.votes c.count_one.new.votes from listed tally c.count_one.ensures.cast;
+      kept = c.count_one.ensures.kept;
     }
 
 pub returns : goal.returns
@@ -36,4 +35,4 @@ returns c =
     let none = drop_all c.loop-place.place-index c.args.places.now (omega arith) in
     tally_all c.args.table.now.sizes c.args.table.now.held c.loop-place.votes
     (subst (λ (xs : List CertRef). IsTally c.args.table.now.sizes c.args.table.now.held xs c.loop-place.votes) none c.loop-place.invariant.tally)
-    c.loop-place.invariant.newest c.loop-place.invariant.entries
+    c.loop-place.invariant.kept

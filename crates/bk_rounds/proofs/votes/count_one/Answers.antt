@@ -17,9 +17,15 @@ leader-requires c =
     let even : c.args.place.round % 2 ≡ 0 = even_from c.args.place.round c.if-place-eq1.false in
     omega (arith, low, even)
 
-pub cast-requires-clause-entry : goal.cast-requires-clause-entry
-cast-requires-clause-entry c = present_entry c.args.table.now.sizes c.args.table.now.held c.args.votes.now c.args.place c.weight.ensures.some c.requires.entries c.requires.present
-    (even_from c.args.place.round c.if-place-eq1.false)
+pub cast-requires-clause-can : goal.cast-requires-clause-can
+cast-requires-clause-can c =
+    let low : 1 ≤ c.args.place.round = present_from c.args.table.now.sizes c.args.table.now.held c.args.place c.requires.present in
+    let even = even_from c.args.place.round c.if-place-eq1.false in
+    record {
+      odd = odd_before c.args.place.round low even;
+      entry = present_entry c.args.table.now.sizes c.args.table.now.held c.args.votes.now c.args.place c.weight.ensures.some c.requires.kept.entries c.requires.present even;
+      small = omega (arith, c.requires.light, c.weight.ensures.light, c.weight.ensures.small);
+    }
 
 pub returns-clause-cast : goal.returns-clause-cast
 returns-clause-cast c =
@@ -31,12 +37,10 @@ returns-clause-cast c =
     let named : Links z held p (record { round = p.round - 1; author = c.leader.result }) = (c.parents_of.ensures c.leader.result).0 (c.has.ensures.0 c.if-not-has.false) in
     let led : Links z held p (led_in z (p.round - 1)) = subst (λ (x : ℕ). Links z held p (record { round = p.round - 1; author = x })) c.leader.ensures.is named in
     let here : p ≡ next_of (p.round - 1) p.author = same_place p (next_of (p.round - 1) p.author) (omega (arith, low)) refl in
-    inl (
-      link_vote z held (p.round - 1) p.author (odd_before p.round low even) (subst (λ (q : CertRef). Links z held q (led_in z (p.round - 1))) here led),
-      c.cast.ensures.here ∙ ap (λ (w : ℕ). kept_at c.args.votes.now (p.round - 1) + w) c.weight.ensures.is,
-    )
-
-pub cast-requires-clause-odd : goal.cast-requires-clause-odd
-cast-requires-clause-odd c =
-    let low : 1 ≤ c.args.place.round = present_from c.args.table.now.sizes c.args.table.now.held c.args.place c.requires.present in
-    odd_before c.args.place.round low (even_from c.args.place.round c.if-place-eq1.false)
+    record {
+      here = inl (
+        link_vote z held (p.round - 1) p.author (odd_before p.round low even) (subst (λ (q : CertRef). Links z held q (led_in z (p.round - 1))) here led),
+        c.cast.ensures.raised.here ∙ ap (λ (w : ℕ). kept_at c.args.votes.now (p.round - 1) + w) c.weight.ensures.is,
+      );
+      other = c.cast.ensures.raised.other;
+    }

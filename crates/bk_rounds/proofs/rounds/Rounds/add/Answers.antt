@@ -21,9 +21,13 @@ count-requires-clause-tally c = rw c.deref.ensures.value
     (tally_added c.self.inside.table c.add.new.self c.args.cert c.in_ok-places.places.items c.self.inside.votes c.make_room.new.self c.in_ok-places.ensures.ok c.sound-2.ensures.clear
     c.sound.ensures.decided c.in_ok-places.ensures.answer c.self.invariant.tally c.make_room.ensures.same)
 
-pub count-requires-clause-entries : goal.count-requires-clause-entries
-count-requires-clause-entries c = entries_added c.self.inside.table.held c.add.new.self c.self.inside.table.sizes c.args.cert c.make_room.new.self c.in_ok-places.ensures.ok
-    (let room = c.in_ok-make_room.ensures.room in omega (arith, room, c.held.ensures))
+pub count-requires-clause-kept : goal.count-requires-clause-kept
+count-requires-clause-kept c = record {
+  newest = subst (λ (v : RoundsValue). IsNewest (faulty v.sizes) c.make_room.new.self) (sym c.in_ok-places.ensures.ok)
+      (newest_same (faulty c.self.inside.table.sizes) c.self.inside.votes c.make_room.new.self c.make_room.ensures.same c.make_room.ensures.newest c.self.invariant.newest);
+  entries = entries_added c.self.inside.table.held c.add.new.self c.self.inside.table.sizes c.args.cert c.make_room.new.self c.in_ok-places.ensures.ok
+      (let room = c.in_ok-make_room.ensures.room in omega (arith, room, c.held.ensures));
+}
 
 pub make_room-requires : goal.make_room-requires
 make_room-requires c = let room : length c.self.inside.table.held ≤ 2 * length c.self.inside.votes.weights.items + 1 = c.self.invariant.entries in omega (arith, room, c.held.ensures)
@@ -39,7 +43,3 @@ invariant_of-self-in_err-places c = subst (λ (v : RoundsValue). AreCounted v.si
 
 pub invariant_of-self-2 : goal.invariant_of-self-2
 invariant_of-self-2 c = c.count.ensures
-
-pub count-requires-clause-newest : goal.count-requires-clause-newest
-count-requires-clause-newest c = subst (λ (v : RoundsValue). IsNewest (faulty v.sizes) c.make_room.new.self) (sym c.in_ok-places.ensures.ok)
-    (newest_same (faulty c.self.inside.table.sizes) c.self.inside.votes c.make_room.new.self c.make_room.ensures.same c.make_room.ensures.newest c.self.invariant.newest)

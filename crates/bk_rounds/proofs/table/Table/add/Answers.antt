@@ -2,7 +2,7 @@ use Rattle.std.proofs.Common.{◌≡◌, ◌≢◌, ◌-◌, ◌≤◌, ◌++◌
 use Rattle.std.specs.List.{Contains}
 use Rattle.std.specs.Ordering.{is_eq}
 use Rattle.std.specs.Vec.{with_items}
-use Rattle.std.proofs.lemmas.List.{with_items_is}
+use Rattle.std.proofs.lemmas.List.{length-set, with_items_is}
 use Rattle.std.proofs.lemmas.List.Elements.{Contains-get_or}
 use Rattle.bk_committee.specs.Sizes.{Sizes}
 use Rattle.bk_cert.specs.Node.{Node}
@@ -64,44 +64,8 @@ admit-requires-clause-number c =
 pub admit-requires-clause-id : goal.admit-requires-clause-id
 admit-requires-clause-id c = c.in_ok-ready.ensures.prepared.id ∙ sym c.id.ensures
 
-pub tell-self-inside-requires-clause-inside : goal.tell-self-inside-requires-clause-inside
-tell-self-inside-requires-clause-inside c =
-    let z : Sizes = c.self.inside.weights in
-    let held : List Node = c.self.inside.certs.items in
-    let n : Names = c.prepare.new.names in
-    let cert : Node = c.args.cert in
-    let k : ℕ = c.in_ok-ready.ready.number in
-    let p = c.in_ok-ready.ensures.prepared in
-    let w : IsWhole z held n (number_of c.self.inside.places) c.self.inside.top =
-    whole_grown z held c.self.inside.names n (number_of c.self.inside.places) (number_of c.self.inside.places) c.self.inside.top c.self.invariant c.in_ok-ready.ensures.grows c.in_ok-ready.ensures.names (λ q. refl) in
-    let new : (d : Node) → Contains held d → d.id ≢ cert.id = λ d t. c.requires.new d (subst (λ (v : RoundsValue). Contains v.held d) c.self.view_is t) in
-    let none : round_of n.slots k ≡ 0 = number_free z held n (number_of c.self.inside.places) c.self.inside.top w k cert p.id new in
-    let e_m : (with_items n.marks c.admit.new.marks).items ≡ c.admit.new.marks = with_items_is n.marks c.admit.new.marks (omega (arith, c.admit.auto.marks, ap length c.deref_mut.ensures.value, n.marks.ok.0)) in
-    let table : IsTable z c.admit.new.slots c.admit.new.marks c.admit.new.pending = c.admit.ensures.table in
-    λ j d low.
-    let i : ℕ = get_or c.deref.result.now j d in
-    let there = subst (λ (xs : List ℕ). Contains xs i) c.deref.ensures.value (Contains-get_or c.deref.result.now j d low) in
-    let inside = marked_low c.admit.new.marks i ((c.admit.ensures.out i).0 there).0 in
-    omega (arith, inside, table.same, ap length c.as_slice.ensures)
-
-pub tell-self-inside-requires-clause-parents : goal.tell-self-inside-requires-clause-parents
-tell-self-inside-requires-clause-parents c =
-    let z : Sizes = c.self.inside.weights in
-    let held : List Node = c.self.inside.certs.items in
-    let n : Names = c.prepare.new.names in
-    let cert : Node = c.args.cert in
-    let k : ℕ = c.in_ok-ready.ready.number in
-    let p = c.in_ok-ready.ensures.prepared in
-    let w : IsWhole z held n (number_of c.self.inside.places) c.self.inside.top =
-    whole_grown z held c.self.inside.names n (number_of c.self.inside.places) (number_of c.self.inside.places) c.self.inside.top c.self.invariant c.in_ok-ready.ensures.grows c.in_ok-ready.ensures.names (λ q. refl) in
-    let new : (d : Node) → Contains held d → d.id ≢ cert.id = λ d t. c.requires.new d (subst (λ (v : RoundsValue). Contains v.held d) c.self.view_is t) in
-    let none : round_of n.slots k ≡ 0 = number_free z held n (number_of c.self.inside.places) c.self.inside.top w k cert p.id new in
-    let e_m : (with_items n.marks c.admit.new.marks).items ≡ c.admit.new.marks = with_items_is n.marks c.admit.new.marks (omega (arith, c.admit.auto.marks, ap length c.deref_mut.ensures.value, n.marks.ok.0)) in
-    let table : IsTable z c.admit.new.slots c.admit.new.marks c.admit.new.pending = c.admit.ensures.table in
-    subst IsInside (sym c.as_slice.ensures) table.inside
-
-pub tell-self-inside-requires-clause-authors : goal.tell-self-inside-requires-clause-authors
-tell-self-inside-requires-clause-authors c =
+pub tell-self-inside-requires-clause-can : goal.tell-self-inside-requires-clause-can
+tell-self-inside-requires-clause-can c =
     let z : Sizes = c.self.inside.weights in
     let held : List Node = c.self.inside.certs.items in
     let n : Names = c.prepare.new.names in
@@ -130,12 +94,21 @@ tell-self-inside-requires-clause-authors c =
     let good : IsFit z cert = subst (λ (v : RoundsValue). IsFit v.sizes cert) (sym c.self.view_is) c.requires.good in
     let from : (d : Node) → Contains held d → 1 ≤ d.header.round = λ d t. (w.good d t).from_one in
     let tied : IsTied (held ++ cert ∷ []) m.slots = tied_added held n m cert k slot added from w.tied in
-    λ i q there among.
-    let mark = ((c.admit.ensures.out i).0 (subst (λ (xs : List ℕ). Contains xs i) c.deref.ensures.value there)).0 in
-    let low = parent_author z (held ++ cert ∷ []) m (good_added z held cert w.good good) tied (table_from z m c.admit.new.slots c.admit.new.marks c.admit.new.pending refl e_m refl table) i q
-    (ap (λ ms. is_marked ms i) e_m ∙ mark) (subst (λ (ss : List Slot). Contains (parents_of ss i) q) c.as_slice.ensures among) in
-    let is : author_of c.as_slice.result.now q ≡ author_of m.slots q = ap (λ (ss : List Slot). author_of ss q) c.as_slice.ensures in
-    omega (arith, low, is, w.few)
+    record {
+      inside = λ j d low.
+          let i : ℕ = get_or c.deref.result.now j d in
+          let there = subst (λ (xs : List ℕ). Contains xs i) c.deref.ensures.value (Contains-get_or c.deref.result.now j d low) in
+          let inside = marked_low c.admit.new.marks i ((c.admit.ensures.out i).0 there).0 in
+          omega (arith, inside, table.same, ap length c.as_slice.ensures);
+      parents = subst IsInside (sym c.as_slice.ensures) table.inside;
+      authors = λ i q there among.
+          let mark = ((c.admit.ensures.out i).0 (subst (λ (xs : List ℕ). Contains xs i) c.deref.ensures.value there)).0 in
+          let low = parent_author z (held ++ cert ∷ []) m (good_added z held cert w.good good) tied (table_from z m c.admit.new.slots c.admit.new.marks c.admit.new.pending refl e_m refl table) i q
+          (ap (λ ms. is_marked ms i) e_m ∙ mark) (subst (λ (ss : List Slot). Contains (parents_of ss i) q) c.as_slice.ensures among) in
+          let is : author_of c.as_slice.result.now q ≡ author_of m.slots q = ap (λ (ss : List Slot). author_of ss q) c.as_slice.ensures in
+          omega (arith, low, is, w.few);
+      same = omega (arith, ap length c.deref_mut-2.ensures.value, w.names.sets, ap length c.as_slice.ensures, ap length c.admit.ensures.slots, length-set {A = Slot});
+    }
 
 pub invariant_of-self-2 : goal.invariant_of-self-2
 invariant_of-self-2 c =
@@ -174,8 +147,7 @@ invariant_of-self-2 c =
     let admitted : IsAdmitting n m out c.self.inside.top c.tell-self-inside.result =
     admitting_from n m out c.deref.result.now c.self.inside.top c.tell-self-inside.result c.deref_mut.result.now c.admit.new.marks c.as_slice.result.now c.deref_mut-2.result.now c.tell-self-inside.new.sets
     c.deref_mut.ensures.value e_m (sym c.as_slice.ensures) c.deref_mut-2.ensures.value e_t c.deref.ensures.value c.tell-self-inside.auto.sets
-    waits c.admit.ensures.stay c.admit.ensures.out c.tell-self-inside.ensures.here c.tell-self-inside.ensures.other c.tell-self-inside.ensures.highest c.tell-self-inside.ensures.more c.tell-self-inside.ensures.least
-    c.tell-self-inside.ensures.reached in
+    waits c.admit.ensures.stay c.admit.ensures.out c.tell-self-inside.ensures.told in
     let free : (d : Node) → Contains held d → place_of d ≢ place_of cert = λ d t. c.requires.free d (subst (λ (v : RoundsValue). Contains v.held d) c.self.view_is t) in
     let here : CertRef = record { round = c.round.result; author = c.author.result } in
     let place : here ≡ place_of cert = same_place here (place_of cert) (c.round.ensures ∙ ap (λ (h : HeaderValue). h.round) c.header.ensures) (c.author.ensures ∙ ap (λ (h : HeaderValue). h.author) c.header-2.ensures) in
@@ -225,8 +197,7 @@ returns-clause-answer c =
     let admitted : IsAdmitting n m out c.self.inside.top c.tell-self-inside.result =
     admitting_from n m out c.deref.result.now c.self.inside.top c.tell-self-inside.result c.deref_mut.result.now c.admit.new.marks c.as_slice.result.now c.deref_mut-2.result.now c.tell-self-inside.new.sets
     c.deref_mut.ensures.value e_m (sym c.as_slice.ensures) c.deref_mut-2.ensures.value e_t c.deref.ensures.value c.tell-self-inside.auto.sets
-    waits c.admit.ensures.stay c.admit.ensures.out c.tell-self-inside.ensures.here c.tell-self-inside.ensures.other c.tell-self-inside.ensures.highest c.tell-self-inside.ensures.more c.tell-self-inside.ensures.least
-    c.tell-self-inside.ensures.reached in
+    waits c.admit.ensures.stay c.admit.ensures.out c.tell-self-inside.ensures.told in
     let free : (d : Node) → Contains held d → place_of d ≢ place_of cert = λ d t. c.requires.free d (subst (λ (v : RoundsValue). Contains v.held d) c.self.view_is t) in
     let here : CertRef = record { round = c.round.result; author = c.author.result } in
     let place : here ≡ place_of cert = same_place here (place_of cert) (c.round.ensures ∙ ap (λ (h : HeaderValue). h.round) c.header.ensures) (c.author.ensures ∙ ap (λ (h : HeaderValue). h.author) c.header-2.ensures) in
