@@ -7,20 +7,8 @@ use Rattle.std.proofs.lemmas.List.{length-append, get_or_append_left, get_or-app
 use Rattle.bk_committee.specs.Sizes.{Sizes}
 use Rattle.bk_rounds.specs.declared.slots.Slot.{Slot}
 use Rattle.bk_rounds.specs.declared.waking.Pending.{Pending}
-use Rattle.bk_rounds.specs.private.Numbered.{IsInsideRows, IsRegistered, IsTaken, IsSound, IsAdmittedAt, is_ready_in, parents_of, round_of, row_of, is_marked, Extends}
+use Rattle.bk_rounds.specs.private.Numbered.{IsInside, IsInsideRows, IsRegistered, IsTaken, IsSound, IsTable, IsSettling, IsLeft, AreWoken, is_ready_in, parents_of, round_of, row_of, is_marked, Extends}
 use Rattle.bk_rounds.proofs.Marks.{admitted_marked}
-
--- in the list from this index on
-abbrev pub IsLeft : List ℕ → ℕ → ℕ → Type 0
-IsLeft out next m = (j : ℕ) × (next ≤ j) × (j < length out) × (get_or out j m ≡ m)
-
--- What is left to look after is marked, and whatever is ready and not marked waits for one of these.
-pub record IsSettling (z : Sizes) (slots : List Slot) (marks : List Bool) (pending : Pending) (out : List ℕ) (next : ℕ) : Type 0 where
-  pub sound : IsSound z slots marks
-  pub inside : IsInsideRows (length slots) pending
-  pub here : (m : ℕ) → Contains out m → (m < length slots) × (is_marked marks m ≡ true)
-  pub registered : IsRegistered slots marks pending
-  pub covered : (i : ℕ) → is_ready_in z slots marks i ≡ true → is_marked marks i ≡ false → (m : ℕ) × IsLeft out next m × Contains (row_of pending m) i
 
 get_or-append_at : (xs ys : List ℕ) (j d : ℕ) → get_or (xs ++ ys) (length xs + j) d ≡ get_or ys j d
 get_or-append_at xs ys j d = get_or-append_right xs ys (length xs) (length xs + j) d refl (omega arith) ∙ ap (λ i. get_or ys i d) (let e : length xs + j - length xs ≡ j = omega arith in e)
@@ -28,9 +16,16 @@ get_or-append_at xs ys j d = get_or-append_right xs ys (length xs) (length xs + 
 none_in_nil : (x : ℕ) → Contains [] x → ⊥
 none_in_nil x h = omega (arith, h.1)
 
+-- at the end the marks are exact
 pub settled_at_end : (z : Sizes) (slots : List Slot) (marks : List Bool) (pending : Pending) (out : List ℕ) (next : ℕ) → length out ≤ next
-    → IsSettling z slots marks pending out next → (i : ℕ) → (is_marked marks i ≡ true) ↔ IsAdmittedAt z slots (round_of slots i) i
-settled_at_end z slots marks pending out next all s i = (s.sound i, admitted_marked z slots marks closed (round_of slots i) i)
+    → IsSettling z slots marks pending out next → IsTable z slots marks pending
+settled_at_end z slots marks pending out next all s = record {
+  same = s.same;
+  inside = s.parents;
+  rows = s.inside;
+  exact = λ i. (s.sound i, admitted_marked z slots marks closed (round_of slots i) i);
+  registered = s.registered;
+}
   where
     none : (i : ℕ) → is_ready_in z slots marks i ≡ true → is_marked marks i ≡ false → ⊥
     none i ready free = let m = s.covered i ready free in omega (arith, m.1.1, m.1.2)
@@ -44,16 +39,17 @@ inside_taken n k pending after h t m i there = ⊎_elim
     (λ o. h m i (subst (λ (xs : List ℕ). Contains xs i) (t.other m o) there))
     (cases_eq m k)
 
+pub marked_low : (marks : List Bool) (p : ℕ) → is_marked marks p ≡ true → p < length marks
+marked_low marks p h = ⊎_elim (λ lt. lt) (λ ge. absurd (both_ways _ (get_or_past marks p false ge) h)) (cases_lt p (length marks))
+
 -- Those that waited for the next one are looked after.
 pub settling_next : (z : Sizes) (slots : List Slot) (old new : List Bool) (pending after : Pending) (out out' woken : List ℕ) (next k : ℕ) → row_of pending k ≡ woken → next < length out → ((d : ℕ) → get_or out next d ≡ k)
-    → IsSettling z slots old pending out next → IsTaken pending after k → IsSound z slots new → Extends old new out out'
-    → ((i : ℕ) → is_ready_in z slots new i ≡ true → is_marked new i ≡ false
-    → ((is_ready_in z slots old i ≡ true) × (Contains woken i → ⊥))
-    ⊎ ((p : ℕ) × Contains (parents_of slots i) p × (is_marked new p ≡ true) × (is_marked old p ≡ false)))
-    → ((p : ℕ) → is_marked new p ≡ true → p < length slots)
+    → IsSettling z slots old pending out next → IsTaken pending after k → AreWoken z slots old new woken out out'
     → IsSettling z slots new after out' (next + 1)
-settling_next z slots old new pending after out out' woken next k row low at s t sound more covers within = record {
-  sound = sound;
+settling_next z slots old new pending after out out' woken next k row low at s t w = record {
+  parents = s.parents;
+  same = more.length ∙ s.same;
+  sound = w.sound;
   inside = inside_taken (length slots) k pending after s.inside t;
   here = λ m h. let there = subst (λ (xs : List ℕ). Contains xs m) more.is h in ⊎_elim
       (λ l. let b = s.here m l in (b.0, more.stay m b.1))
@@ -65,9 +61,15 @@ settling_next z slots old new pending after out out' woken next k row low at s t
       (λ (p, names, now, then).
       let other : p ≢ k = λ e. both_ways _ then (ap (is_marked old) e ∙ k_marked) in
       (p, gained_left p now then, subst (λ (xs : List ℕ). Contains xs i) (sym (t.other p other)) (s.registered i p names (before i free) then)))
-      (covers i ready free);
+      (w.covers i ready free);
 }
   where
+    more : Extends old new out out'
+    more = w.more
+
+    within : (p : ℕ) → is_marked new p ≡ true → p < length slots
+    within p t = let low' = marked_low new p t in let wide = more.length in let same = s.same in omega arith
+
     before : (i : ℕ) → is_marked new i ≡ false → is_marked old i ≡ false
     before i h = false_from_ne_true _ (λ e. both_ways _ h (more.stay i e))
 
@@ -103,15 +105,14 @@ settling_next z slots old new pending after out out' woken next k row low at s t
         let other : m ≢ k = λ e. away (subst (λ (xs : List ℕ). Contains xs i) (ap (row_of pending) e ∙ row) waits) in
         (m, left_on m other left, subst (λ (xs : List ℕ). Contains xs i) (sym (t.other m other)) waits)
 
-pub marked_low : (marks : List Bool) (p : ℕ) → is_marked marks p ≡ true → p < length marks
-marked_low marks p h = ⊎_elim (λ lt. lt) (λ ge. absurd (both_ways _ (get_or_past marks p false ge) h)) (cases_lt p (length marks))
-
 -- a start: all of the list is left
-pub settling_first : (z : Sizes) (slots : List Slot) (marks : List Bool) (pending : Pending) (out : List ℕ) → IsSound z slots marks → IsInsideRows (length slots) pending
+pub settling_first : (z : Sizes) (slots : List Slot) (marks : List Bool) (pending : Pending) (out : List ℕ) → IsInside slots → length marks ≡ length slots → IsSound z slots marks → IsInsideRows (length slots) pending
     → ((m : ℕ) → Contains out m → (m < length slots) × (is_marked marks m ≡ true)) → IsRegistered slots marks pending
     → ((i : ℕ) → is_ready_in z slots marks i ≡ true → is_marked marks i ≡ false → (m : ℕ) × Contains out m × Contains (row_of pending m) i)
     → IsSettling z slots marks pending out 0
-settling_first z slots marks pending out sound inside here registered covered = record {
+settling_first z slots marks pending out parents same sound inside here registered covered = record {
+  parents = parents;
+  same = same;
   sound = sound;
   inside = inside;
   here = here;

@@ -1,7 +1,7 @@
 //! Who waits is woken by what is admitted.
 
 ghost use Rattle.std.specs.Prelude.{◌≡◌, ℕ, ◌+◌, ◌<◌, ◌≤◌, [], length, Contains, true, false, OnOk, OnErr, All, vec_len, vec_capacity};
-ghost use Rattle.bk_rounds.specs.private.Numbered.{IsInside, IsInsideRows, IsSound, IsExact, IsTaken, IsEntered, Covers, AreCovered, row_of, is_marked, count_unmarked, Extends, IsRegistered};
+ghost use Rattle.bk_rounds.specs.private.Numbered.{IsInsideRows, IsTaken, IsEntered, IsTable, IsSettling, CanWake, AreWoken, row_of, is_marked, count_unmarked, Extends};
 
 use crate::slots::{Slot, is_ready};
 use crate::weights::Weights;
@@ -65,17 +65,13 @@ fn wake(
     woken: &[usize],
     out: &mut Vec<usize>,
 )
-    requires inside { All (λ k. k < length slots.now) woken.now }
-    requires parents { IsInside slots.now }
-    requires same { length marks.old ≡ length slots.now }
-    requires sound { IsSound weights.now slots.now marks.old }
+    requires can { CanWake weights.now slots.now marks.old woken.now }
     requires room { vec_len out.old + count_unmarked marks.old ≤ vec_capacity out.old }
     ensures room { vec_len out.new + count_unmarked marks.new ≤ vec_capacity out.new }
     ensures steps { vec_len out.new + count_unmarked marks.new
         ≡ vec_len out.old + count_unmarked marks.old }
-    ensures sound { IsSound weights.now slots.now marks.new }
-    ensures more { Extends marks.old marks.new out.old.items out.new.items }
-    ensures covers { Covers weights.now slots.now marks.old marks.new woken.now }
+    ensures woken { AreWoken weights.now slots.now marks.old marks.new woken.now
+        out.old.items out.new.items }
 {
     for k in woken {
         let k = *k;
@@ -95,21 +91,12 @@ pub(crate) fn settle(
     pending: &mut Pending,
     out: &mut Vec<usize>,
 )
-    requires parents { IsInside slots.now }
-    requires same { length marks.old ≡ length slots.now }
-    requires rows { IsInsideRows (length slots.now) pending.old }
-    requires out { (i : ℕ) → Contains out.old.items i → (i < length slots.now)
-        × (is_marked marks.old i ≡ true) }
+    requires settling { IsSettling weights.now slots.now marks.old pending.old out.old.items 0 }
     requires room { vec_len out.old + count_unmarked marks.old ≤ vec_capacity out.old }
-    requires sound { IsSound weights.now slots.now marks.old }
-    requires registered { IsRegistered slots.now marks.old pending.old }
-    requires covered { AreCovered weights.now slots.now marks.old pending.old out.old.items }
-    ensures marks { IsExact weights.now slots.now marks.new }
+    ensures table { IsTable weights.now slots.now marks.new pending.new }
     ensures steps { vec_len out.new + count_unmarked marks.new
         ≡ vec_len out.old + count_unmarked marks.old }
     ensures more { Extends marks.old marks.new out.old.items out.new.items }
-    ensures rows { IsInsideRows (length slots.now) pending.new }
-    ensures registered { IsRegistered slots.now marks.new pending.new }
 {
     let mut next = 0;
     while next < out.len() {

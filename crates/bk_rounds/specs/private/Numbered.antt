@@ -1,5 +1,5 @@
 -- Certificates by number: what never changes of them, and the marks and rows that do.
-use Rattle.std.specs.Prelude.{◌≡◌, ◌≢◌, ℕ, zero, suc, ◌+◌, ◌-◌, ◌<◌, ◌≤◌, ◌^◌, ◌==◌, ◌&&◌, ◌||◌, ◌⊎◌, ◌↔◌, ◌++◌, not, Bool, true, false, List, [], ◌∷◌, Option, Some, None, map, length, Contains, count_by, sum_by, nat_le, slice_index_or}
+use Rattle.std.specs.Prelude.{◌≡◌, ◌≢◌, ℕ, zero, suc, ◌+◌, ◌-◌, ◌<◌, ◌≤◌, ◌^◌, ◌==◌, ◌&&◌, ◌||◌, ◌⊎◌, ◌↔◌, ◌++◌, not, Bool, true, false, List, [], ◌∷◌, Option, Some, None, map, length, All, Contains, count_by, sum_by, nat_le, slice_index_or}
 use Rattle.std.specs.BTreeMap.{get}
 use Rattle.std.specs.List.{list_all}
 use Rattle.std.specs.Ordering.{nat_cmp}
@@ -117,10 +117,33 @@ Covers z slots old new woken = (i : ℕ) → is_ready_in z slots new i ≡ true 
     ⊎ ((p : ℕ) × Contains (parents_of slots i) p × (is_marked new p ≡ true)
     × (is_marked old p ≡ false))
 
--- what is ready and not marked waits for one of these
-abbrev pub AreCovered : Sizes → List Slot → List Bool → Pending → List ℕ → Type 0
-AreCovered z slots marks pending out = (i : ℕ) → is_ready_in z slots marks i ≡ true
-    → is_marked marks i ≡ false → (m : ℕ) × Contains out m × Contains (row_of pending m) i
+-- these are numbers, and what is marked of all of them is admitted
+pub record CanWake (z : Sizes) (slots : List Slot) (marks : List Bool) (woken : List ℕ) : Type 0 where
+  pub inside : All (λ k. k < length slots) woken
+  pub parents : IsInside slots
+  pub same : length marks ≡ length slots
+  pub sound : IsSound z slots marks
+
+-- the woken were marked where they were ready
+pub record AreWoken (z : Sizes) (slots : List Slot) (old new : List Bool) (woken before after : List ℕ) : Type 0 where
+  pub sound : IsSound z slots new
+  pub more : Extends old new before after
+  pub covers : Covers z slots old new woken
+
+-- in the list from this index on
+abbrev pub IsLeft : List ℕ → ℕ → ℕ → Type 0
+IsLeft out next m = (j : ℕ) × (next ≤ j) × (j < length out) × (slice_index_or out j m ≡ m)
+
+-- what is left to look after is marked, and whatever is ready and not marked waits for one of these
+pub record IsSettling (z : Sizes) (slots : List Slot) (marks : List Bool) (pending : Pending) (out : List ℕ) (next : ℕ) : Type 0 where
+  pub parents : IsInside slots
+  pub same : length marks ≡ length slots
+  pub sound : IsSound z slots marks
+  pub inside : IsInsideRows (length slots) pending
+  pub here : (m : ℕ) → Contains out m → (m < length slots) × (is_marked marks m ≡ true)
+  pub registered : IsRegistered slots marks pending
+  pub covered : (i : ℕ) → is_ready_in z slots marks i ≡ true → is_marked marks i ≡ false
+      → (m : ℕ) × IsLeft out next m × Contains (row_of pending m) i
 
 -- what the table always is: marked is what is admitted, and who waits is registered
 pub record IsTable (z : Sizes) (slots : List Slot) (marks : List Bool) (pending : Pending) : Type 0 where

@@ -1,6 +1,5 @@
 use Rattle.std.proofs.Common.{◌≡◌, ◌≤◌, ◌+◌, ◌-◌, vec_len, vec_capacity}
-use Rattle.bk_rounds.specs.private.Numbered.{Extends, count_unmarked}
-use Rattle.bk_rounds.proofs.Settling.{IsSettling}
+use Rattle.bk_rounds.specs.private.Numbered.{Extends, IsSettling, count_unmarked}
 use Rattle.bk_rounds.proofs.waking.settle.Given as goal
 
 abbrev pub invariant-loop-next : goal.invariant-loop-next

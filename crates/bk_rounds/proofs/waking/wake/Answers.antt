@@ -9,7 +9,7 @@ pub loop-k-init : goal.loop-k-init
 loop-k-init c = record {
   room = c.requires.room;
   steps = refl;
-  sound = c.requires.sound;
+  sound = c.requires.can.sound;
   more = extends_none c.args.marks.now c.args.out.now.items;
   covered = covered_first c.args.weights.now c.args.slots.now c.args.marks.now c.args.woken.now;
 }
@@ -17,14 +17,14 @@ loop-k-init c = record {
 pub push_reserved-requires : goal.push_reserved-requires
 push_reserved-requires c =
     let k : ℕ = get_or c.args.woken.now c.loop-k.k-index 0 in
-    let low : k < length c.args.slots.now = c.requires.inside c.loop-k.k-index 0 c.loop-k-test.true in
+    let low : k < length c.args.slots.now = c.requires.can.inside c.loop-k.k-index 0 c.loop-k-test.true in
     let fewer = one_fewer c.loop-k.marks k (omega arith) c.if-not-marks-k.true in
     omega (arith, c.loop-k.invariant.room, fewer)
 
 pub loop-k-preserved : goal.loop-k-preserved
 loop-k-preserved c =
     let k : ℕ = get_or c.args.woken.now c.loop-k.k-index 0 in
-    let low : k < length c.args.slots.now = c.requires.inside c.loop-k.k-index 0 c.loop-k-test.true in
+    let low : k < length c.args.slots.now = c.requires.can.inside c.loop-k.k-index 0 c.loop-k-test.true in
     let within : k < length c.loop-k.marks = omega arith in
     elim c.if-not-marks-k.branch [
       | then-not-marks-k+then-is_ready w ↦ rw (w.marks-is, w.out-is, w.push_reserved.ensures.items) (record {
@@ -49,5 +49,9 @@ loop-k-preserved c =
       })
     ]
 
-pub returns-clause-covers : goal.returns-clause-covers
-returns-clause-covers c = covered_all c.args.weights.now c.args.slots.now c.args.marks.now c.loop-k.marks c.args.woken.now c.loop-k.k-index (omega arith) c.loop-k.invariant.covered
+pub returns-clause-woken : goal.returns-clause-woken
+returns-clause-woken c = record {
+  sound = c.loop-k.invariant.sound;
+  more = c.loop-k.invariant.more;
+  covers = covered_all c.args.weights.now c.args.slots.now c.args.marks.now c.loop-k.marks c.args.woken.now c.loop-k.k-index (omega arith) c.loop-k.invariant.covered;
+}
