@@ -50,39 +50,9 @@ pub length_map : {X Y : Type 0} (f : X → Y) (xs : List X) → length (map f xs
 length_map f [] = refl
 length_map f (x ∷ xs) = ap suc (length_map f xs)
 
-pub grows_same : (a b : Names) → AreSame a b → Grows a b
-grows_same a b s = record {
-  longer = let e = ap length s.slots in omega arith;
-  id = λ i low. ap (λ xs. id_of xs i) s.slots;
-  round = λ i. ap (λ xs. round_of xs i) s.slots;
-  author = λ i. ap (λ xs. author_of xs i) s.slots;
-  cert = λ i. ap (λ xs. cert_of xs i) s.slots;
-  parents = λ i. ap (λ xs. parents_of xs i) s.slots;
-  marked = λ i. ap (λ xs. is_marked xs i) s.marks;
-  set = λ i low. ap (λ xs. set_of xs i) s.sets;
-  kept = λ m i h. subst (λ (xs : Pending). Contains (row_of xs m) i) (sym s.pending) h;
-}
-
-pub names_same : (a b : Names) → AreNames a → AreSame a b → AreNames b
-names_same a b n s = record {
-  marks = ap length s.marks ∙ (n.marks ∙ sym (ap length s.slots));
-  sets = ap length s.sets ∙ (n.sets ∙ sym (ap length s.slots));
-  rows = subst (λ (xs : Pending). IsInsideRows (length b.slots) xs) (sym s.pending)
-      (subst (λ (k : ℕ). IsInsideRows k a.pending) (sym (ap length s.slots)) n.rows);
-  waiting = s.unmarked ∙ (n.waiting ∙ ap count_unmarked (sym s.marks));
-  numbering = record {
-    sound = λ q k e. let h = n.numbering.sound q k (sym (known q) ∙ e) in
-        (subst (λ (xs : List Slot). k < length xs) (sym s.slots) h.0, ap (λ xs. id_of xs k) s.slots ∙ h.1);
-    complete = λ k low. let h = n.numbering.complete k (subst (λ (xs : List Slot). k < length xs) s.slots low) in
-        known (id_of b.slots k) ∙ (ap (λ xs. known_in a (id_of xs k)) s.slots ∙ h);
-  };
-}
-  where
-    known : (q : List ℕ) → known_in b q ≡ known_in a q
-    known q = ap (position (has_id q)) s.slots
-
 pub grows_on : (a b c : Names) → Grows a b → Grows b c → Grows a c
 grows_on a b c h k = record {
+  names = k.names;
   longer = omega (arith, h.longer, k.longer);
   id = λ i low. k.id i (let l = h.longer in omega arith) ∙ h.id i low;
   round = λ i. k.round i ∙ h.round i;
@@ -123,20 +93,7 @@ id_at a b id slot set p =
     ∙ (ap (λ k. get_or (map (λ (x : Slot). x.id) a.slots ++ slot.id ∷ []) k []) (sym (length_map (λ (x : Slot). x.id) a.slots))
     ∙ (push_at (map (λ (x : Slot). x.id) a.slots) slot.id [] ∙ p.id_is)))
 
-pub grows_pushed : (a b : Names) (id : List ℕ) (slot : Slot) (set : ℕ) → AreNames a → Pushes a b id slot set → Grows a b
-grows_pushed a b id slot set n p = record {
-  longer = let e = ap length p.slots in omega (arith, e, length-append a.slots (slot ∷ []));
-  id = id_before a b id slot set p;
-  round = λ i. ap (λ xs. round_of xs i) p.slots ∙ push_field (λ (x : Slot). x.round) a.slots slot 0 p.round_is i;
-  author = λ i. ap (λ xs. author_of xs i) p.slots ∙ push_field (λ (x : Slot). x.author) a.slots slot 0 p.author_is i;
-  cert = λ i. ap (λ xs. cert_of xs i) p.slots ∙ push_field (λ (x : Slot). x.cert) a.slots slot 0 p.cert_is i;
-  parents = λ i. ap (λ xs. parents_of xs i) p.slots ∙ push_field (λ (x : Slot). x.parents.items) a.slots slot [] p.none i;
-  marked = λ i. ap (λ xs. is_marked xs i) p.marks ∙ push_default a.marks.items false i;
-  set = λ i low. ap (λ xs. set_of xs i) p.sets ∙ push_before a.sets.items set 0 i (subst (λ (k : ℕ). i < k) (sym n.sets) low);
-  kept = λ m i h. subst (λ (xs : List ℕ). Contains xs i) (sym (row_same a b id slot set p m)) h;
-}
-
-pub names_pushed : (a b : Names) (id : List ℕ) (slot : Slot) (set : ℕ) → AreNames a → known_in a id ≡ None → Pushes a b id slot set → AreNames b
+names_pushed : (a b : Names) (id : List ℕ) (slot : Slot) (set : ℕ) → AreNames a → known_in a id ≡ None → Pushes a b id slot set → AreNames b
 names_pushed a b id slot set n new p = record {
   marks = let e = ap length p.marks in let f = ap length p.slots in
       omega (arith, e, f, n.marks, length-append a.marks.items (false ∷ []), length-append a.slots (slot ∷ []));
@@ -192,6 +149,20 @@ names_pushed a b id slot set n new p = record {
         (cases_Bool (has_id (id_of a.slots k) slot))
 
 -- numbers keep their ids
+pub grows_pushed : (a b : Names) (id : List ℕ) (slot : Slot) (set : ℕ) → AreNames a → known_in a id ≡ None → Pushes a b id slot set → Grows a b
+grows_pushed a b id slot set n new p = record {
+  names = names_pushed a b id slot set n new p;
+  longer = let e = ap length p.slots in omega (arith, e, length-append a.slots (slot ∷ []));
+  id = id_before a b id slot set p;
+  round = λ i. ap (λ xs. round_of xs i) p.slots ∙ push_field (λ (x : Slot). x.round) a.slots slot 0 p.round_is i;
+  author = λ i. ap (λ xs. author_of xs i) p.slots ∙ push_field (λ (x : Slot). x.author) a.slots slot 0 p.author_is i;
+  cert = λ i. ap (λ xs. cert_of xs i) p.slots ∙ push_field (λ (x : Slot). x.cert) a.slots slot 0 p.cert_is i;
+  parents = λ i. ap (λ xs. parents_of xs i) p.slots ∙ push_field (λ (x : Slot). x.parents.items) a.slots slot [] p.none i;
+  marked = λ i. ap (λ xs. is_marked xs i) p.marks ∙ push_default a.marks.items false i;
+  set = λ i low. ap (λ xs. set_of xs i) p.sets ∙ push_before a.sets.items set 0 i (subst (λ (k : ℕ). i < k) (sym n.sets) low);
+  kept = λ m i h. subst (λ (xs : List ℕ). Contains xs i) (sym (row_same a b id slot set p m)) h;
+}
+
 pub ids_kept : (a b : Names) (ps : List ℕ) → Grows a b → All (λ p. p < length a.slots) ps → map (id_of b.slots) ps ≡ map (id_of a.slots) ps
 ids_kept a b ps g low = same ps (recursion_from_All _ ps low)
   where
@@ -217,13 +188,13 @@ id_pushed xs ys s n e is =
     ∙ push_at (map (λ (x : Slot). x.id) xs) s.id []))
 
 -- rows have gained
-pub names_rows : (a b : Names) → AreNames a → b.slots ≡ a.slots → b.marks ≡ a.marks → b.sets ≡ a.sets → b.unmarked ≡ a.unmarked
+names_rows : (a b : Names) → AreNames a → b.slots ≡ a.slots → b.marks.items ≡ a.marks.items → b.sets.items ≡ a.sets.items → b.unmarked ≡ a.unmarked
     → IsInsideRows (length a.slots) b.pending → AreNames b
 names_rows a b n slots marks sets unmarked rows = record {
-  marks = ap (λ v. length v.items) marks ∙ (n.marks ∙ sym (ap length slots));
-  sets = ap (λ v. length v.items) sets ∙ (n.sets ∙ sym (ap length slots));
+  marks = ap length marks ∙ (n.marks ∙ sym (ap length slots));
+  sets = ap length sets ∙ (n.sets ∙ sym (ap length slots));
   rows = subst (λ (k : ℕ). IsInsideRows k b.pending) (sym (ap length slots)) rows;
-  waiting = unmarked ∙ (n.waiting ∙ ap (λ v. count_unmarked v.items) (sym marks));
+  waiting = unmarked ∙ (n.waiting ∙ ap count_unmarked (sym marks));
   numbering = record {
     sound = λ q k e. let h = n.numbering.sound q k (sym (known q) ∙ e) in
         (subst (λ (v : List Slot). k < length v) (sym slots) h.0, ap (λ v. id_of v k) slots ∙ h.1);
@@ -235,16 +206,22 @@ names_rows a b n slots marks sets unmarked rows = record {
     known : (q : List ℕ) → known_in b q ≡ known_in a q
     known q = ap (position (has_id q)) slots
 
-pub grows_rows : (a b : Names) → b.slots ≡ a.slots → b.marks ≡ a.marks → b.sets ≡ a.sets
-    → ((m i : ℕ) → Contains (row_of a.pending m) i → Contains (row_of b.pending m) i) → Grows a b
-grows_rows a b slots marks sets kept = record {
+pub grows_rows : (a b : Names) → AreNames a → b.slots ≡ a.slots → b.marks.items ≡ a.marks.items → b.sets.items ≡ a.sets.items → b.unmarked ≡ a.unmarked
+    → IsInsideRows (length a.slots) b.pending → ((m i : ℕ) → Contains (row_of a.pending m) i → Contains (row_of b.pending m) i) → Grows a b
+grows_rows a b n slots marks sets unmarked rows kept = record {
+  names = names_rows a b n slots marks sets unmarked rows;
   longer = let e = ap length slots in omega arith;
   id = λ i low. ap (λ v. id_of v i) slots;
   round = λ i. ap (λ v. round_of v i) slots;
   author = λ i. ap (λ v. author_of v i) slots;
   cert = λ i. ap (λ v. cert_of v i) slots;
   parents = λ i. ap (λ v. parents_of v i) slots;
-  marked = λ i. ap (λ v. is_marked v.items i) marks;
-  set = λ i low. ap (λ v. set_of v.items i) sets;
+  marked = λ i. ap (λ v. is_marked v i) marks;
+  set = λ i low. ap (λ v. set_of v i) sets;
   kept = kept;
 }
+
+pub grows_same : (a b : Names) → AreNames a → AreSame a b → Grows a b
+grows_same a b n s = grows_rows a b n s.slots s.marks s.sets s.unmarked
+    (subst (IsInsideRows (length a.slots)) (sym s.pending) n.rows)
+    (λ m i h. subst (λ (xs : Pending). Contains (row_of xs m) i) (sym s.pending) h)

@@ -8,7 +8,7 @@ use Rattle.bk_rounds.specs.declared.slots.Slot.{Slot}
 use Rattle.bk_rounds.specs.declared.names.Names.{Names}
 use Rattle.bk_rounds.specs.Members.{Has}
 use Rattle.bk_rounds.specs.private.Numbered.{id_of, round_of, author_of, parents_of, is_marked, is_heavy_in, IsInside, IsAdmittedAt, IsTable}
-use Rattle.bk_rounds.specs.private.Names.{AreNames, Grows}
+use Rattle.bk_rounds.specs.private.Names.{Grows}
 use Rattle.bk_rounds.specs.private.Tied.{IsSlotOf, IsAt, IsAuthorIn, IsWhole, place_at}
 use Rattle.bk_cert.proofs.Refs.{same_place}
 use Rattle.bk_rounds.proofs.Settling.{marked_low}
@@ -26,11 +26,11 @@ admitted_grown z slots after round author parents (suc r) i h = (
   λ low p t. admitted_grown z slots after round author parents r p (h.2 low p (subst (λ (ps : List ℕ). Contains ps p) (parents i) t)),
 )
 
-table_grown : (z : Sizes) (a b : Names) → Grows a b → AreNames b → IsTable z a.slots a.marks.items a.pending → IsTable z b.slots b.marks.items b.pending
-table_grown z a b g n t = record {
-  same = n.marks;
+table_grown : (z : Sizes) (a b : Names) → Grows a b → IsTable z a.slots a.marks.items a.pending → IsTable z b.slots b.marks.items b.pending
+table_grown z a b g t = record {
+  same = g.names.marks;
   inside = λ i p h. let l = t.inside i p (subst (λ (ps : List ℕ). Contains ps p) (g.parents i) h) in let m = g.longer in omega arith;
-  rows = n.rows;
+  rows = g.names.rows;
   exact = λ i. (
     (λ m. subst (λ (r : ℕ). IsAdmittedAt z b.slots r i) (sym (g.round i))
         (admitted_grown z a.slots b.slots g.round g.author g.parents (round_of a.slots i) i ((t.exact i).0 (sym (g.marked i) ∙ m)))),
@@ -56,14 +56,14 @@ slot_grown a b g inside i c low s = record {
   parents = s.parents ∙ (sym (ids_kept a b (parents_of a.slots i) g (all_inside a.slots i inside)) ∙ ap (map (id_of b.slots)) (sym (g.parents i)));
 }
 
-pub whole_grown : (z : Sizes) (held : List Node) (a b : Names) (placed placed' : CertRef → Option ℕ) (top : ℕ) → IsWhole z held a placed top → Grows a b → AreNames b
+pub whole_grown : (z : Sizes) (held : List Node) (a b : Names) (placed placed' : CertRef → Option ℕ) (top : ℕ) → IsWhole z held a placed top → Grows a b
     → ((q : CertRef) → placed' q ≡ placed q) → IsWhole z held b placed' top
-whole_grown z held a b placed placed' top w g n same = record {
+whole_grown z held a b placed placed' top w g same = record {
   few = w.few;
   good = w.good;
   clear = w.clear;
-  names = n;
-  table = table_grown z a b g n w.table;
+  names = g.names;
+  table = table_grown z a b g w.table;
   tied = record {
     cert = λ i some.
         let some' : 0 < round_of a.slots i = subst (λ (r : ℕ). 0 < r) (g.round i) some in

@@ -50,8 +50,7 @@ pub(crate) fn numbers_of(
     row: &[u32],
     ids: &[Digest32],
 ) -> Result<Vec<usize>, AllocError>
-    requires names { AreNames names.old }
-    ensures names { AreNames names.new }
+    requires { AreNames names.old }
     ensures grows { Grows names.old names.new }
     ensures ids { IfOk result (λ ps. map (id_of names.new.slots) ps.items ≡ ids.now) }
     ensures inside { IfOk result (λ ps. All (λ p. p < length names.new.slots) ps.items) }
@@ -73,8 +72,7 @@ fn number_near(
     hint: Option<usize>,
     id: &Digest32,
 ) -> Result<usize, AllocError>
-    requires names { AreNames names.old }
-    ensures names { AreNames names.new }
+    requires { AreNames names.old }
     ensures grows { Grows names.old names.new }
     ensures inside { IfOk result (λ k. k < length names.new.slots) }
     ensures id { IfOk result (λ k. id_of names.new.slots k ≡ id.now) }
@@ -94,8 +92,7 @@ pub(crate) fn number_of(
     names: &mut Names,
     id: &Digest32,
 ) -> Result<usize, AllocError>
-    requires names { AreNames names.old }
-    ensures names { AreNames names.new }
+    requires { AreNames names.old }
     ensures grows { Grows names.old names.new }
     ensures inside { IfOk result (λ k. k < length names.new.slots) }
     ensures id { IfOk result (λ k. id_of names.new.slots k ≡ id.now) }
@@ -113,8 +110,7 @@ pub(crate) fn own_number(
     names: &mut Names,
     id: &Digest32,
 ) -> Result<usize, AllocError>
-    requires names { AreNames names.old }
-    ensures names { AreNames names.new }
+    requires { AreNames names.old }
     ensures grows { Grows names.old names.new }
     ensures inside { IfOk result (λ k. k < length names.new.slots) }
     ensures id { IfOk result (λ k. id_of names.new.slots k ≡ id.now) }

@@ -2,7 +2,7 @@
 
 ghost use Rattle.std.specs.Prelude.{◌≡◌, ◌<◌, OnOk, IfOk, vec_len, vec_capacity};
 ghost use Rattle.bk_rounds.specs.private.Names.{AreNames, Grows};
-ghost use Rattle.bk_rounds.specs.private.Prepared.{IsPrepared, AreClearFor};
+ghost use Rattle.bk_rounds.specs.private.Prepared.{IsPrepared};
 
 use crate::buffers::Buffers;
 use crate::names::{Names, numbers_of, own_number};
@@ -28,13 +28,11 @@ pub(crate) fn prepare(
     rows: &mut Rows,
     cert: &SharedCert,
 ) -> Result<Prepared, AllocError>
-    requires names { AreNames names.old }
-    ensures names { AreNames names.new }
+    requires { AreNames names.old }
     ensures grows { Grows names.old names.new }
     ensures certs { certs.new.items ≡ certs.old.items }
     ensures room { OnOk result (vec_len certs.new < vec_capacity certs.new) }
-    ensures prepared { IfOk result (IsPrepared names.new cert.now) }
-    ensures clear { OnOk result (AreClearFor buffers.new names.new.unmarked) }
+    ensures prepared { IfOk result (IsPrepared names.new buffers.new cert.now) }
 {
     let parents = numbers_of(alloc, names, rows.before(cert), cert.header().parents())?;
     let number = own_number(alloc, names, cert.id())?;

@@ -31,8 +31,9 @@ pub record AreNames (n : Names) : Type 0 where
   pub waiting : n.unmarked ≡ count_unmarked n.marks.items
   pub numbering : IsNumbering n.slots (known_in n)
 
--- further ids may have numbers, and rows may have gained
+-- they are names still, further ids may have numbers, and rows may have gained
 pub record Grows (a b : Names) : Type 0 where
+  pub names : AreNames b
   pub longer : length a.slots ≤ length b.slots
   pub id : (i : ℕ) → i < length a.slots → id_of b.slots i ≡ id_of a.slots i
   pub round : (i : ℕ) → round_of b.slots i ≡ round_of a.slots i

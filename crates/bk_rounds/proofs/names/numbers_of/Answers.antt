@@ -5,12 +5,11 @@ use Rattle.bk_rounds.proofs.Named.{grows_same, grows_on, map_push, ids_kept, ins
 use Rattle.bk_rounds.proofs.names.numbers_of.Goals as goal
 
 pub returns-in_err-numbers-clause-grows : goal.returns-in_err-numbers-clause-grows
-returns-in_err-numbers-clause-grows c = grows_same _ _ (record { slots = refl; marks = refl; pending = refl; sets = refl; unmarked = refl })
+returns-in_err-numbers-clause-grows c = grows_same _ _ c.requires (record { slots = refl; marks = refl; pending = refl; sets = refl; unmarked = refl })
 
 pub loop-id-init : goal.loop-id-init
 loop-id-init c = record {
-  names = c.requires.names;
-  grows = grows_same _ _ (record { slots = refl; marks = refl; pending = refl; sets = refl; unmarked = refl });
+  grows = grows_same _ _ c.requires (record { slots = refl; marks = refl; pending = refl; sets = refl; unmarked = refl });
   ids = ap (map (id_of c.args.names.now.slots)) c.in_ok-numbers.ensures.items;
   inside = rw c.in_ok-numbers.ensures.items (λ k d low. absurd (omega arith));
 }
@@ -33,7 +32,6 @@ loop-id-preserved c =
     ∙ ((λ i. (ids_kept old new ps c.in_ok-number.ensures.grows c.loop-id.invariant.inside ∙ c.loop-id.invariant.ids) i ++ here i ∷ [])
     ∙ sym (take_more c.args.ids.now c.loop-id.id-index c.id-item.result c.loop-id-test.true)) in
     record {
-      names = c.in_ok-number.ensures.names;
       grows = grows_on c.args.names.now old new c.loop-id.invariant.grows c.in_ok-number.ensures.grows;
       ids = ap (map (id_of new.slots)) c.in_ok-push.ensures.items ∙ all;
       inside = rw c.in_ok-push.ensures.items (inside_push (length new.slots) ps k

@@ -26,12 +26,12 @@ use Rattle.bk_rounds.proofs.table.Table.add.Goals as goal
 pub invariant_of-self : goal.invariant_of-self
 invariant_of-self c = rw c.in_err-ready.ensures.certs
     (whole_grown c.self.inside.weights c.self.inside.certs.items c.self.inside.names c.prepare.new.names (number_of c.self.inside.places) (number_of c.self.inside.places) c.self.inside.top c.self.invariant
-    c.in_err-ready.ensures.grows c.in_err-ready.ensures.names (λ q. refl))
+    c.in_err-ready.ensures.grows (λ q. refl))
 
 pub invariant_of-self-in_err-first_of : goal.invariant_of-self-in_err-first_of
 invariant_of-self-in_err-first_of c = rw c.in_ok-ready.ensures.certs
     (whole_grown c.self.inside.weights c.self.inside.certs.items c.self.inside.names c.prepare.new.names (number_of c.self.inside.places) (number_of c.first_of.new.self) c.self.inside.top c.self.invariant
-    c.in_ok-ready.ensures.grows c.in_ok-ready.ensures.names c.in_err-first_of.ensures.err)
+    c.in_ok-ready.ensures.grows c.in_err-first_of.ensures.err)
 
 pub admit-requires-clause-table : goal.admit-requires-clause-table
 admit-requires-clause-table c =
@@ -42,7 +42,7 @@ admit-requires-clause-table c =
     let k : ℕ = c.in_ok-ready.ready.number in
     let p = c.in_ok-ready.ensures.prepared in
     let w : IsWhole z held n (number_of c.self.inside.places) c.self.inside.top =
-    whole_grown z held c.self.inside.names n (number_of c.self.inside.places) (number_of c.self.inside.places) c.self.inside.top c.self.invariant c.in_ok-ready.ensures.grows c.in_ok-ready.ensures.names (λ q. refl) in
+    whole_grown z held c.self.inside.names n (number_of c.self.inside.places) (number_of c.self.inside.places) c.self.inside.top c.self.invariant c.in_ok-ready.ensures.grows (λ q. refl) in
     let new : (d : Node) → Contains held d → d.id ≢ cert.id = λ d t. c.requires.new d (subst (λ (v : RoundsValue). Contains v.held d) c.self.view_is t) in
     let none : round_of n.slots k ≡ 0 = number_free z held n (number_of c.self.inside.places) c.self.inside.top w k cert p.id new in
     rw (c.deref_mut.ensures.value) w.table
@@ -56,7 +56,7 @@ admit-requires-clause-number c =
     let k : ℕ = c.in_ok-ready.ready.number in
     let p = c.in_ok-ready.ensures.prepared in
     let w : IsWhole z held n (number_of c.self.inside.places) c.self.inside.top =
-    whole_grown z held c.self.inside.names n (number_of c.self.inside.places) (number_of c.self.inside.places) c.self.inside.top c.self.invariant c.in_ok-ready.ensures.grows c.in_ok-ready.ensures.names (λ q. refl) in
+    whole_grown z held c.self.inside.names n (number_of c.self.inside.places) (number_of c.self.inside.places) c.self.inside.top c.self.invariant c.in_ok-ready.ensures.grows (λ q. refl) in
     let new : (d : Node) → Contains held d → d.id ≢ cert.id = λ d t. c.requires.new d (subst (λ (v : RoundsValue). Contains v.held d) c.self.view_is t) in
     let none : round_of n.slots k ≡ 0 = number_free z held n (number_of c.self.inside.places) c.self.inside.top w k cert p.id new in
     (p.inside, none)
@@ -73,7 +73,7 @@ tell-self-inside-requires-clause-can c =
     let k : ℕ = c.in_ok-ready.ready.number in
     let p = c.in_ok-ready.ensures.prepared in
     let w : IsWhole z held n (number_of c.self.inside.places) c.self.inside.top =
-    whole_grown z held c.self.inside.names n (number_of c.self.inside.places) (number_of c.self.inside.places) c.self.inside.top c.self.invariant c.in_ok-ready.ensures.grows c.in_ok-ready.ensures.names (λ q. refl) in
+    whole_grown z held c.self.inside.names n (number_of c.self.inside.places) (number_of c.self.inside.places) c.self.inside.top c.self.invariant c.in_ok-ready.ensures.grows (λ q. refl) in
     let new : (d : Node) → Contains held d → d.id ≢ cert.id = λ d t. c.requires.new d (subst (λ (v : RoundsValue). Contains v.held d) c.self.view_is t) in
     let none : round_of n.slots k ≡ 0 = number_free z held n (number_of c.self.inside.places) c.self.inside.top w k cert p.id new in
     let e_m : (with_items n.marks c.admit.new.marks).items ≡ c.admit.new.marks = with_items_is n.marks c.admit.new.marks (omega (arith, c.admit.auto.marks, ap length c.deref_mut.ensures.value, n.marks.ok.0)) in
@@ -119,7 +119,7 @@ invariant_of-self-2 c =
     let k : ℕ = c.in_ok-ready.ready.number in
     let p = c.in_ok-ready.ensures.prepared in
     let w : IsWhole z held n (number_of c.self.inside.places) c.self.inside.top =
-    whole_grown z held c.self.inside.names n (number_of c.self.inside.places) (number_of c.self.inside.places) c.self.inside.top c.self.invariant c.in_ok-ready.ensures.grows c.in_ok-ready.ensures.names (λ q. refl) in
+    whole_grown z held c.self.inside.names n (number_of c.self.inside.places) (number_of c.self.inside.places) c.self.inside.top c.self.invariant c.in_ok-ready.ensures.grows (λ q. refl) in
     let new : (d : Node) → Contains held d → d.id ≢ cert.id = λ d t. c.requires.new d (subst (λ (v : RoundsValue). Contains v.held d) c.self.view_is t) in
     let none : round_of n.slots k ≡ 0 = number_free z held n (number_of c.self.inside.places) c.self.inside.top w k cert p.id new in
     let e_m : (with_items n.marks c.admit.new.marks).items ≡ c.admit.new.marks = with_items_is n.marks c.admit.new.marks (omega (arith, c.admit.auto.marks, ap length c.deref_mut.ensures.value, n.marks.ok.0)) in
@@ -169,7 +169,7 @@ returns-clause-answer c =
     let k : ℕ = c.in_ok-ready.ready.number in
     let p = c.in_ok-ready.ensures.prepared in
     let w : IsWhole z held n (number_of c.self.inside.places) c.self.inside.top =
-    whole_grown z held c.self.inside.names n (number_of c.self.inside.places) (number_of c.self.inside.places) c.self.inside.top c.self.invariant c.in_ok-ready.ensures.grows c.in_ok-ready.ensures.names (λ q. refl) in
+    whole_grown z held c.self.inside.names n (number_of c.self.inside.places) (number_of c.self.inside.places) c.self.inside.top c.self.invariant c.in_ok-ready.ensures.grows (λ q. refl) in
     let new : (d : Node) → Contains held d → d.id ≢ cert.id = λ d t. c.requires.new d (subst (λ (v : RoundsValue). Contains v.held d) c.self.view_is t) in
     let none : round_of n.slots k ≡ 0 = number_free z held n (number_of c.self.inside.places) c.self.inside.top w k cert p.id new in
     let e_m : (with_items n.marks c.admit.new.marks).items ≡ c.admit.new.marks = with_items_is n.marks c.admit.new.marks (omega (arith, c.admit.auto.marks, ap length c.deref_mut.ensures.value, n.marks.ok.0)) in
