@@ -13,7 +13,7 @@ ghost use Rattle.bk_index.specs.Places.{number_of};
 ghost use Rattle.bk_rounds.specs.Admission.{StandsAt, IsPresent, IsFit, AreFit, WaitsAt, last_round};
 ghost use Rattle.bk_rounds.specs.Links.{Links};
 ghost use Rattle.bk_rounds.specs.Members.{Has, IsWeightOf};
-ghost use Rattle.bk_rounds.specs.Rounds.{rounds_with, sizes_with, BecomesPresent};
+ghost use Rattle.bk_rounds.specs.Rounds.{rounds_with, sizes_with, BecomesPresent, IsAddable};
 ghost use Rattle.bk_rounds.specs.private.Numbered.{is_marked};
 ghost use Rattle.bk_rounds.specs.private.Names.{AreNames};
 ghost use Rattle.bk_rounds.specs.private.Tied.{IsPlaced, IsNumberAt, WaitsBelow};
@@ -86,14 +86,7 @@ impl Table {
     /// Whether a certificate may be added: it is fit, and neither its id nor its place is held. A
     /// certificate that breaks no local rule is fit.
     pub fn can_add(&self, cert: &SharedCert) -> bool
-        ensures good { IsTrue result → IsFit self.now.sizes cert.now }
-        ensures new { IsTrue result → (c : Node) → Contains self.now.held c → c.id ≢ cert.now.id }
-        ensures free { IsTrue result → (c : Node) → Contains self.now.held c
-            → place_of c ≢ place_of cert.now }
-        ensures can { IsFit self.now.sizes cert.now
-            → ((c : Node) → Contains self.now.held c → c.id ≢ cert.now.id)
-            → ((c : Node) → Contains self.now.held c → place_of c ≢ place_of cert.now)
-            → IsTrue result }
+        ensures { IsTrue result ↔ IsAddable self.now cert.now }
     {
         let header = cert.header();
         let place = CertRef {
@@ -115,9 +108,7 @@ impl Table {
     /// An `Err` comes only where memory runs out, and leaves the table as it was. It may leave
     /// empty rows, which change no result: what a row says is compared before it is used.
     pub fn add(&mut self, cert: SharedCert) -> Result<Vec<CertRef>, AllocError>
-        requires good { IsFit self.old.sizes cert }
-        requires new { (c : Node) → Contains self.old.held c → c.id ≢ cert.id }
-        requires free { (c : Node) → Contains self.old.held c → place_of c ≢ place_of cert }
+        requires { IsAddable self.old cert }
         ensures ok { OnOk result (self.new ≡ rounds_with self.old.sizes
             (self.old.held ++ cert ∷ [])) }
         ensures err { OnErr result (self.new ≡ self.old) }

@@ -2,16 +2,13 @@ use Rattle.std.proofs.Common.{◌≤◌, ◌+◌, ◌*◌, length, List, sym, su
 use Rattle.std.specs.List.{Contains}
 use Rattle.bk_cert.specs.declared.place.CertRef.{CertRef}
 use Rattle.bk_committee.specs.Sizes.{faulty}
-use Rattle.bk_rounds.specs.Rounds.{RoundsValue}
+use Rattle.bk_rounds.specs.Rounds.{RoundsValue, IsAddable}
 use Rattle.bk_rounds.specs.private.Tally.{IsNewest, AreCounted}
 use Rattle.bk_rounds.proofs.Tallied.{tally_added, entries_added, counted_room, newest_same}
 use Rattle.bk_rounds.proofs.rounds.Rounds.add.Goals as goal
 
-pub add-requires-clause-new : goal.add-requires-clause-new
-add-requires-clause-new c = λ d t. c.requires.new d (subst (λ (v : RoundsValue). Contains v.held d) c.self.view_is t)
-
-pub add-requires-clause-free : goal.add-requires-clause-free
-add-requires-clause-free c = λ d t. c.requires.free d (subst (λ (v : RoundsValue). Contains v.held d) c.self.view_is t)
+pub add-requires : goal.add-requires
+add-requires c = subst (λ (v : RoundsValue). IsAddable v c.args.cert) (sym c.self.view_is) c.requires
 
 pub count-requires-clause-present : goal.count-requires-clause-present
 count-requires-clause-present c = λ b t. (c.in_ok-places.ensures.answer.sound b (subst (λ (xs : List CertRef). Contains xs b) c.deref.ensures.value t)).0

@@ -12,7 +12,7 @@ use Rattle.bk_rounds.specs.declared.slots.Slot.{Slot}
 use Rattle.bk_rounds.specs.declared.names.Names.{Names}
 use Rattle.bk_cert.specs.Place.{place_of, Lists, place_cmp}
 use Rattle.bk_rounds.specs.Admission.{IsFit, IsPresent}
-use Rattle.bk_rounds.specs.Rounds.{RoundsValue}
+use Rattle.bk_rounds.specs.Rounds.{RoundsValue, IsAddable, rounds_with}
 use Rattle.bk_rounds.specs.private.Numbered.{IsTable, IsInside, round_of, author_of, parents_of, is_marked, count_unmarked}
 use Rattle.bk_index.specs.Places.{number_of}
 use Rattle.bk_rounds.specs.private.Tied.{IsWhole, IsTied, place_at}
@@ -43,8 +43,8 @@ admit-requires-clause-table c =
     let p = c.in_ok-ready.ensures.prepared in
     let w : IsWhole z held n (number_of c.self.inside.places) c.self.inside.top =
     whole_grown z held c.self.inside.names n (number_of c.self.inside.places) (number_of c.self.inside.places) c.self.inside.top c.self.invariant c.in_ok-ready.ensures.grows (λ q. refl) in
-    let new : (d : Node) → Contains held d → d.id ≢ cert.id = λ d t. c.requires.new d (subst (λ (v : RoundsValue). Contains v.held d) c.self.view_is t) in
-    let none : round_of n.slots k ≡ 0 = number_free z held n (number_of c.self.inside.places) c.self.inside.top w k cert p.id new in
+    let can : IsAddable (rounds_with z held) cert = subst (λ (v : RoundsValue). IsAddable v cert) (sym c.self.view_is) c.requires in
+    let none : round_of n.slots k ≡ 0 = number_free z held n (number_of c.self.inside.places) c.self.inside.top w k cert p.id can.new in
     rw (c.deref_mut.ensures.value) w.table
 
 pub admit-requires-clause-number : goal.admit-requires-clause-number
@@ -57,8 +57,8 @@ admit-requires-clause-number c =
     let p = c.in_ok-ready.ensures.prepared in
     let w : IsWhole z held n (number_of c.self.inside.places) c.self.inside.top =
     whole_grown z held c.self.inside.names n (number_of c.self.inside.places) (number_of c.self.inside.places) c.self.inside.top c.self.invariant c.in_ok-ready.ensures.grows (λ q. refl) in
-    let new : (d : Node) → Contains held d → d.id ≢ cert.id = λ d t. c.requires.new d (subst (λ (v : RoundsValue). Contains v.held d) c.self.view_is t) in
-    let none : round_of n.slots k ≡ 0 = number_free z held n (number_of c.self.inside.places) c.self.inside.top w k cert p.id new in
+    let can : IsAddable (rounds_with z held) cert = subst (λ (v : RoundsValue). IsAddable v cert) (sym c.self.view_is) c.requires in
+    let none : round_of n.slots k ≡ 0 = number_free z held n (number_of c.self.inside.places) c.self.inside.top w k cert p.id can.new in
     (p.inside, none)
 
 pub admit-requires-clause-id : goal.admit-requires-clause-id
@@ -74,8 +74,8 @@ tell-self-inside-requires-clause-can c =
     let p = c.in_ok-ready.ensures.prepared in
     let w : IsWhole z held n (number_of c.self.inside.places) c.self.inside.top =
     whole_grown z held c.self.inside.names n (number_of c.self.inside.places) (number_of c.self.inside.places) c.self.inside.top c.self.invariant c.in_ok-ready.ensures.grows (λ q. refl) in
-    let new : (d : Node) → Contains held d → d.id ≢ cert.id = λ d t. c.requires.new d (subst (λ (v : RoundsValue). Contains v.held d) c.self.view_is t) in
-    let none : round_of n.slots k ≡ 0 = number_free z held n (number_of c.self.inside.places) c.self.inside.top w k cert p.id new in
+    let can : IsAddable (rounds_with z held) cert = subst (λ (v : RoundsValue). IsAddable v cert) (sym c.self.view_is) c.requires in
+    let none : round_of n.slots k ≡ 0 = number_free z held n (number_of c.self.inside.places) c.self.inside.top w k cert p.id can.new in
     let e_m : (with_items n.marks c.admit.new.marks).items ≡ c.admit.new.marks = with_items_is n.marks c.admit.new.marks (omega (arith, c.admit.auto.marks, ap length c.deref_mut.ensures.value, n.marks.ok.0)) in
     let table : IsTable z c.admit.new.slots c.admit.new.marks c.admit.new.pending = c.admit.ensures.table in
     let slot : Slot = record { id = c.id.result.now; round = c.round.result; author = c.author.result; cert = c.len.result; parents = c.in_ok-ready.ready.parents } in
@@ -91,7 +91,6 @@ tell-self-inside-requires-clause-can c =
       parents = p.parents;
       slots = c.admit.ensures.slots;
     } in
-    let good : IsFit z cert = subst (λ (v : RoundsValue). IsFit v.sizes cert) (sym c.self.view_is) c.requires.good in
     let from : (d : Node) → Contains held d → 1 ≤ d.header.round = λ d t. (w.good d t).from_one in
     let tied : IsTied (held ++ cert ∷ []) m.slots = tied_added held n m cert k slot added from w.tied in
     record {
@@ -103,7 +102,7 @@ tell-self-inside-requires-clause-can c =
       parents = subst IsInside (sym c.as_slice.ensures) table.inside;
       authors = λ i q there among.
           let mark = ((c.admit.ensures.out i).0 (subst (λ (xs : List ℕ). Contains xs i) c.deref.ensures.value there)).0 in
-          let low = parent_author z (held ++ cert ∷ []) m (good_added z held cert w.good good) tied (table_from z m c.admit.new.slots c.admit.new.marks c.admit.new.pending refl e_m refl table) i q
+          let low = parent_author z (held ++ cert ∷ []) m (good_added z held cert w.good can.good) tied (table_from z m c.admit.new.slots c.admit.new.marks c.admit.new.pending refl e_m refl table) i q
           (ap (λ ms. is_marked ms i) e_m ∙ mark) (subst (λ (ss : List Slot). Contains (parents_of ss i) q) c.as_slice.ensures among) in
           let is : author_of c.as_slice.result.now q ≡ author_of m.slots q = ap (λ (ss : List Slot). author_of ss q) c.as_slice.ensures in
           omega (arith, low, is, w.few);
@@ -120,8 +119,8 @@ invariant_of-self-2 c =
     let p = c.in_ok-ready.ensures.prepared in
     let w : IsWhole z held n (number_of c.self.inside.places) c.self.inside.top =
     whole_grown z held c.self.inside.names n (number_of c.self.inside.places) (number_of c.self.inside.places) c.self.inside.top c.self.invariant c.in_ok-ready.ensures.grows (λ q. refl) in
-    let new : (d : Node) → Contains held d → d.id ≢ cert.id = λ d t. c.requires.new d (subst (λ (v : RoundsValue). Contains v.held d) c.self.view_is t) in
-    let none : round_of n.slots k ≡ 0 = number_free z held n (number_of c.self.inside.places) c.self.inside.top w k cert p.id new in
+    let can : IsAddable (rounds_with z held) cert = subst (λ (v : RoundsValue). IsAddable v cert) (sym c.self.view_is) c.requires in
+    let none : round_of n.slots k ≡ 0 = number_free z held n (number_of c.self.inside.places) c.self.inside.top w k cert p.id can.new in
     let e_m : (with_items n.marks c.admit.new.marks).items ≡ c.admit.new.marks = with_items_is n.marks c.admit.new.marks (omega (arith, c.admit.auto.marks, ap length c.deref_mut.ensures.value, n.marks.ok.0)) in
     let table : IsTable z c.admit.new.slots c.admit.new.marks c.admit.new.pending = c.admit.ensures.table in
     let slot : Slot = record { id = c.id.result.now; round = c.round.result; author = c.author.result; cert = c.len.result; parents = c.in_ok-ready.ready.parents } in
@@ -137,7 +136,6 @@ invariant_of-self-2 c =
       parents = p.parents;
       slots = c.admit.ensures.slots;
     } in
-    let good : IsFit z cert = subst (λ (v : RoundsValue). IsFit v.sizes cert) (sym c.self.view_is) c.requires.good in
     let from : (d : Node) → Contains held d → 1 ≤ d.header.round = λ d t. (w.good d t).from_one in
     let tied : IsTied (held ++ cert ∷ []) m.slots = tied_added held n m cert k slot added from w.tied in
     let e_t : (with_items n.sets c.tell-self-inside.new.sets).items ≡ c.tell-self-inside.new.sets = with_items_is n.sets c.tell-self-inside.new.sets (omega (arith, c.tell-self-inside.auto.sets, ap length c.deref_mut-2.ensures.value, n.sets.ok.0)) in
@@ -148,14 +146,13 @@ invariant_of-self-2 c =
     admitting_from n m out c.deref.result.now c.self.inside.top c.tell-self-inside.result c.deref_mut.result.now c.admit.new.marks c.as_slice.result.now c.deref_mut-2.result.now c.tell-self-inside.new.sets
     c.deref_mut.ensures.value e_m (sym c.as_slice.ensures) c.deref_mut-2.ensures.value e_t c.deref.ensures.value c.tell-self-inside.auto.sets
     waits c.admit.ensures.stay c.admit.ensures.out c.tell-self-inside.ensures.told in
-    let free : (d : Node) → Contains held d → place_of d ≢ place_of cert = λ d t. c.requires.free d (subst (λ (v : RoundsValue). Contains v.held d) c.self.view_is t) in
     let here : CertRef = record { round = c.round.result; author = c.author.result } in
     let place : here ≡ place_of cert = same_place here (place_of cert) (c.round.ensures ∙ ap (λ (h : HeaderValue). h.round) c.header.ensures) (c.author.ensures ∙ ap (λ (h : HeaderValue). h.author) c.header-2.ensures) in
-    let none_there : c.in_ok-first_of.field-0 ≡ None = c.in_ok-first_of.ensures.found ∙ (ap (number_of c.self.inside.places) place ∙ place_free z held n (number_of c.self.inside.places) c.self.inside.top w (place_of cert) free) in
+    let none_there : c.in_ok-first_of.field-0 ≡ None = c.in_ok-first_of.ensures.found ∙ (ap (number_of c.self.inside.places) place ∙ place_free z held n (number_of c.self.inside.places) c.self.inside.top w (place_of cert) can.free) in
     let up = place_put (number_of c.self.inside.places) (number_of c.first_of.new.self) (place_of cert) k
     (λ q. c.in_ok-first_of.ensures.new none_there q ∙ (λ i. cond (is_eq (place_cmp (place i) q)) (Some k) (number_of c.self.inside.places q))) in
     let whole : IsWhole z (held ++ cert ∷ []) m (number_of c.first_of.new.self) c.tell-self-inside.result =
-    whole_added z held n m cert k slot (number_of c.self.inside.places) (number_of c.first_of.new.self) c.self.inside.top c.tell-self-inside.result out w added good new free up
+    whole_added z held n m cert k slot (number_of c.self.inside.places) (number_of c.first_of.new.self) c.self.inside.top c.tell-self-inside.result out w added can.good can.new can.free up
     (table_from z m c.admit.new.slots c.admit.new.marks c.admit.new.pending refl e_m refl table) admitted in
     let certs : c.push_reserved.new.self.items ≡ held ++ cert ∷ [] = c.push_reserved.ensures.items ∙ ap (λ (xs : List Node). xs ++ cert ∷ []) c.in_ok-ready.ensures.certs in
     rw certs whole
@@ -170,8 +167,8 @@ returns-clause-answer c =
     let p = c.in_ok-ready.ensures.prepared in
     let w : IsWhole z held n (number_of c.self.inside.places) c.self.inside.top =
     whole_grown z held c.self.inside.names n (number_of c.self.inside.places) (number_of c.self.inside.places) c.self.inside.top c.self.invariant c.in_ok-ready.ensures.grows (λ q. refl) in
-    let new : (d : Node) → Contains held d → d.id ≢ cert.id = λ d t. c.requires.new d (subst (λ (v : RoundsValue). Contains v.held d) c.self.view_is t) in
-    let none : round_of n.slots k ≡ 0 = number_free z held n (number_of c.self.inside.places) c.self.inside.top w k cert p.id new in
+    let can : IsAddable (rounds_with z held) cert = subst (λ (v : RoundsValue). IsAddable v cert) (sym c.self.view_is) c.requires in
+    let none : round_of n.slots k ≡ 0 = number_free z held n (number_of c.self.inside.places) c.self.inside.top w k cert p.id can.new in
     let e_m : (with_items n.marks c.admit.new.marks).items ≡ c.admit.new.marks = with_items_is n.marks c.admit.new.marks (omega (arith, c.admit.auto.marks, ap length c.deref_mut.ensures.value, n.marks.ok.0)) in
     let table : IsTable z c.admit.new.slots c.admit.new.marks c.admit.new.pending = c.admit.ensures.table in
     let slot : Slot = record { id = c.id.result.now; round = c.round.result; author = c.author.result; cert = c.len.result; parents = c.in_ok-ready.ready.parents } in
@@ -187,7 +184,6 @@ returns-clause-answer c =
       parents = p.parents;
       slots = c.admit.ensures.slots;
     } in
-    let good : IsFit z cert = subst (λ (v : RoundsValue). IsFit v.sizes cert) (sym c.self.view_is) c.requires.good in
     let from : (d : Node) → Contains held d → 1 ≤ d.header.round = λ d t. (w.good d t).from_one in
     let tied : IsTied (held ++ cert ∷ []) m.slots = tied_added held n m cert k slot added from w.tied in
     let e_t : (with_items n.sets c.tell-self-inside.new.sets).items ≡ c.tell-self-inside.new.sets = with_items_is n.sets c.tell-self-inside.new.sets (omega (arith, c.tell-self-inside.auto.sets, ap length c.deref_mut-2.ensures.value, n.sets.ok.0)) in
@@ -198,14 +194,13 @@ returns-clause-answer c =
     admitting_from n m out c.deref.result.now c.self.inside.top c.tell-self-inside.result c.deref_mut.result.now c.admit.new.marks c.as_slice.result.now c.deref_mut-2.result.now c.tell-self-inside.new.sets
     c.deref_mut.ensures.value e_m (sym c.as_slice.ensures) c.deref_mut-2.ensures.value e_t c.deref.ensures.value c.tell-self-inside.auto.sets
     waits c.admit.ensures.stay c.admit.ensures.out c.tell-self-inside.ensures.told in
-    let free : (d : Node) → Contains held d → place_of d ≢ place_of cert = λ d t. c.requires.free d (subst (λ (v : RoundsValue). Contains v.held d) c.self.view_is t) in
     let here : CertRef = record { round = c.round.result; author = c.author.result } in
     let place : here ≡ place_of cert = same_place here (place_of cert) (c.round.ensures ∙ ap (λ (h : HeaderValue). h.round) c.header.ensures) (c.author.ensures ∙ ap (λ (h : HeaderValue). h.author) c.header-2.ensures) in
-    let none_there : c.in_ok-first_of.field-0 ≡ None = c.in_ok-first_of.ensures.found ∙ (ap (number_of c.self.inside.places) place ∙ place_free z held n (number_of c.self.inside.places) c.self.inside.top w (place_of cert) free) in
+    let none_there : c.in_ok-first_of.field-0 ≡ None = c.in_ok-first_of.ensures.found ∙ (ap (number_of c.self.inside.places) place ∙ place_free z held n (number_of c.self.inside.places) c.self.inside.top w (place_of cert) can.free) in
     let up = place_put (number_of c.self.inside.places) (number_of c.first_of.new.self) (place_of cert) k
     (λ q. c.in_ok-first_of.ensures.new none_there q ∙ (λ i. cond (is_eq (place_cmp (place i) q)) (Some k) (number_of c.self.inside.places q))) in
     let whole : IsWhole z (held ++ cert ∷ []) m (number_of c.first_of.new.self) c.tell-self-inside.result =
-    whole_added z held n m cert k slot (number_of c.self.inside.places) (number_of c.first_of.new.self) c.self.inside.top c.tell-self-inside.result out w added good new free up
+    whole_added z held n m cert k slot (number_of c.self.inside.places) (number_of c.first_of.new.self) c.self.inside.top c.tell-self-inside.result out w added can.good can.new can.free up
     (table_from z m c.admit.new.slots c.admit.new.marks c.admit.new.pending refl e_m refl table) admitted in
     let certs : c.push_reserved.new.self.items ≡ held ++ cert ∷ [] = c.push_reserved.ensures.items ∙ ap (λ (xs : List Node). xs ++ cert ∷ []) c.in_ok-ready.ensures.certs in
     let told : List CertRef = c.hand_over.result.items in
