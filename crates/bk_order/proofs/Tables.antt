@@ -1,16 +1,14 @@
 -- The table with one more frame.
 use Rattle.std.proofs.Common.{◌≡◌, ℕ, ◌+◌, ◌<◌, ◌^◌, Bool, true, false, List, [], ◌∷◌, ◌++◌, length, Option, refl, sym, ap, subst, ◌∙◌, arith, append_assoc}
 use Rattle.std.specs.List.{AllZip}
-use Rattle.std.proofs.lemmas.List.{append-nil}
+use Rattle.std.proofs.lemmas.List.{append-nil, length-append}
 use Rattle.bk_base.specs.declared.kind.Kind.{Kind}
 use Rattle.bk_base.specs.declared.kind.Kind.TheVariants as kind
 use Rattle.bk_base.specs.Feed.{Frame}
 use Rattle.bk_committee.specs.Payload.{CommitteeValue}
 use Rattle.bk_certcheck.specs.declared.verdict.Verdict.{Verdict}
-use Rattle.bk_certcheck.specs.declared.verdict.Verdict.TheVariants as verdict
-use Rattle.bk_certcheck.specs.declared.rule.Rule.{Rule}
 use Rattle.bk_certcheck.specs.Verdicts.{IsVerdict}
-use Rattle.bk_commit.specs.Growth.{IsPartOf, IsPrefix}
+use Rattle.bk_commit.specs.Growth.{IsPrefix}
 use Rattle.bk_evidence.specs.Batches.{Batch, batch_with, IsBatchOffer, batches_after}
 use Rattle.bk_evidence.specs.declared.batches.BatchOffer.{BatchOffer}
 use Rattle.bk_evidence.specs.declared.batches.BatchOffer.TheVariants as offer
@@ -19,16 +17,14 @@ use Rattle.bk_evidence.proofs.Members.{same_itself, same_repeat}
 use Rattle.bk_certcheck.specs.declared.finding.Found.{Found}
 use Rattle.bk_certcheck.specs.declared.finding.Found.TheVariants as found
 use Rattle.bk_order.specs.declared.table.Table.{Table}
-use Rattle.bk_cert.specs.Node.{Node}
-use Rattle.bk_order.specs.Frames.{certs_by, id_in, rejects_by}
+use Rattle.bk_order.specs.Frames.{id_in, rejects_by}
 use Rattle.bk_order.specs.declared.reject.Reject.{Reject}
 use Rattle.bk_order.specs.Intake.{IsKeptOf}
 use Rattle.bk_certcheck.specs.Frames.{IsFound, IsOther}
-use Rattle.bk_order.specs.private.Joined.{GoesOn, IsJoined, IsKeeping, kept_in}
+use Rattle.bk_order.specs.private.Joined.{GoesOn, IsJoined, IsKeeping, KeepsFrames, KeepsVerdict, kept_in}
 use Rattle.bk_order.specs.declared.tally.Count.{Count}
-use Rattle.bk_order.specs.private.Tallies.{Counts, CountsVerdict, IsNewDigest}
-use Rattle.bk_rounds.specs.Rounds.{RoundsValue}
-use Rattle.bk_order.proofs.Keeping.{same_nothing, kept_certificate, kept_batch, kept_other}
+use Rattle.bk_order.specs.private.Tallies.{Counts, IsNewDigest}
+use Rattle.bk_order.proofs.Keeping.{kept_certificate, kept_batch, kept_other}
 use Rattle.bk_order.proofs.Tallying.{batch_tallied, other_tallied, verdict_tallied}
 
 -- the frame is counted
@@ -44,37 +40,23 @@ with_batches t bs count =
 few_for : (k : CommitteeValue) (fs : List Frame) (old : Table) → IsKeptOf k fs (kept_in old) → old.next + 1 < 2 ^ 64 → length fs + 1 < 2 ^ 64
 few_for k fs old h few = let n = h.next in omega (arith, n, few)
 
-pub record Keeps (k : CommitteeValue) (old mid : Table) (f : Frame) : Type 0 where
-  pub joined : IsJoined k mid.held mid.rounds
-  pub goes_on : GoesOn old (tick mid)
-  pub next : mid.next + 1 ≡ old.next + 1
-  pub kept : (before : List Frame) → IsKeptOf k before (kept_in old) → IsKeptOf k (before ++ f ∷ []) (kept_in (tick mid))
-
+-- the certificate's frame is counted
 pub cert_keeps : (k : CommitteeValue) (old mid : Table) (f : Frame) (v : Verdict) (id : Option (List ℕ)) → f.kind ≡ kind.Certificate → IsVerdict k f.payload v
-    → rejects_by old.next id v ≡ rejects_by old.next (id_in f.payload) v → IsJoined k old.held old.rounds → IsJoined k mid.held mid.rounds
-    → mid.next ≡ old.next → IsPartOf old.rounds.held mid.rounds.held → mid.batches ≡ old.batches → HaveSame mid.held (old.held ++ certs_by v)
-    → mid.rejected.items ≡ old.rejected.items ++ rejects_by old.next id v → old.next + 1 < 2 ^ 64 → CountsVerdict old.held old.tally mid.tally v → Keeps k old mid f
-cert_keeps k old mid f v id is_cert is_judged ids before after next rounds batches certs rejected few counts = record {
-  joined = after;
-  goes_on = record { rounds = rounds; sizes = after.sizes ∙ sym before.sizes; batches = ([], batches ∙ sym (append-nil old.batches)) };
-  next = ap (λ (n : ℕ). n + 1) next;
-  kept = λ fs h. kept_certificate k fs f (kept_in old) (kept_in (tick mid)) h (ap (λ (n : ℕ). n + 1) next)
-      (verdict_tallied k fs f old.tally h.tally (few_for k fs old h few) old.held mid.tally v h.certs is_cert is_judged counts) v is_cert is_judged certs batches (rejected ∙ ap (λ (rs : List Reject). old.rejected.items ++ rs) ids);
+    → rejects_by old.next id v ≡ rejects_by old.next (id_in f.payload) v → IsJoined k old.held old.rounds → old.next + 1 < 2 ^ 64 → KeepsVerdict k id v old mid → KeepsFrames k (f ∷ []) old (tick mid)
+cert_keeps k old mid f v id is_cert is_judged ids before few c = record {
+  joined = c.joined;
+  goes_on = record { rounds = c.rounds; sizes = after.sizes ∙ sym before.sizes; batches = ([], c.batches ∙ sym (append-nil old.batches)) };
+  next = ap (λ (n : ℕ). n + 1) c.next;
+  kept = λ fs h. kept_certificate k fs f (kept_in old) (kept_in (tick mid)) h (ap (λ (n : ℕ). n + 1) c.next)
+      (verdict_tallied k fs f old.tally h.tally (few_for k fs old h few) old.held mid.tally v h.certs is_cert is_judged c.tally) v is_cert is_judged c.certs c.batches (c.rejected ∙ ap (λ (rs : List Reject). old.rejected.items ++ rs) ids);
 }
-
--- what is rejected is held neither as a certificate nor as a batch
-pub broken_keeps : (k : CommitteeValue) (old mid : Table) (f : Frame) (r : Rule) (id : Option (List ℕ)) → IsFound k f (found.Broken r id) → IsJoined k old.held old.rounds
-    → mid.next ≡ old.next → mid.rounds ≡ old.rounds → mid.batches ≡ old.batches → mid.held ≡ old.held
-    → mid.rejected.items ≡ old.rejected.items ++ rejects_by old.next id (verdict.Broken r) → old.next + 1 < 2 ^ 64 → CountsVerdict old.held old.tally mid.tally (verdict.Broken r) → Keeps k old mid f
-broken_keeps k old mid f r id is joined next rounds batches held rejected few counts =
-    cert_keeps k old mid f (verdict.Broken r) id is.0 is.1 (ap (λ (i : Option (List ℕ)). rejects_by old.next i (verdict.Broken r)) is.2) joined
-    (subst (λ (p : List Node × RoundsValue). IsJoined k p.0 p.1) (λ j. (sym held j, sym rounds j)) joined) next
-    (subst (λ (t : RoundsValue). IsPartOf old.rounds.held t.held) (sym rounds) (λ c h. h)) batches
-    (same_nothing mid.held old.held held) rejected few counts
+  where
+    after : IsJoined k mid.held mid.rounds
+    after = c.joined
 
 pub batch_keeps : (k : CommitteeValue) (old : Table) (bs : List Batch) (count : Count) (new : Bool) (f : Frame) (digest : List ℕ) → IsFound k f (found.Batch digest) → IsJoined k old.held old.rounds
     → HaveSame bs (old.batches ++ batch_with digest f.payload ∷ []) → IsPrefix old.batches bs → old.next + 1 < 2 ^ 64 → IsNewDigest old.batches digest new → Counts new old.tally.batches count
-    → Keeps k old (with_batches old bs count) f
+    → KeepsFrames k (f ∷ []) old (tick (with_batches old bs count))
 batch_keeps k old bs count new f digest is before same begins few is_new counts = record {
   joined = before;
   goes_on = record { rounds = λ c h. h; sizes = refl; batches = begins };
@@ -89,7 +71,7 @@ other_apart kind.Genesis h = ((λ e. absurd cc), (λ e. absurd cc))
 other_apart kind.Certificate h = absurd h
 other_apart kind.Batch h = absurd h
 
-pub other_keeps : (k : CommitteeValue) (old : Table) (f : Frame) → IsFound k f found.Other → IsJoined k old.held old.rounds → old.next + 1 < 2 ^ 64 → Keeps k old old f
+pub other_keeps : (k : CommitteeValue) (old : Table) (f : Frame) → IsFound k f found.Other → IsJoined k old.held old.rounds → old.next + 1 < 2 ^ 64 → KeepsFrames k (f ∷ []) old (tick old)
 other_keeps k old f is before few = record {
   joined = before;
   goes_on = record { rounds = λ c h. h; sizes = refl; batches = ([], sym (append-nil old.batches)) };
@@ -125,7 +107,7 @@ batch_is_new old b offer.Collision h = h.1
 begins_on : {X : Type 0} (xs ys zs : List X) → IsPrefix xs ys → IsPrefix ys zs → IsPrefix xs zs
 begins_on xs ys zs (a, e) (b, f) = (a ++ b, f ∙ (ap (λ us. us ++ b) e ∙ append_assoc xs a b))
 
-pub goes_on_on : (a b c : Table) → GoesOn a b → GoesOn b c → GoesOn a c
+goes_on_on : (a b c : Table) → GoesOn a b → GoesOn b c → GoesOn a c
 goes_on_on a b c h g = record {
   rounds = λ x t. g.rounds x (h.rounds x t);
   sizes = g.sizes ∙ h.sizes;
@@ -133,14 +115,16 @@ goes_on_on a b c h g = record {
 }
 
 pub keeping_on : (k : CommitteeValue) (start table new : Table) (all before left : List Frame) (found later : List Found) (f : Frame) (one : Found) → IsKeeping k start table all before found
-    → before ≡ f ∷ left → found ≡ one ∷ later → IsJoined k new.held new.rounds → GoesOn table new → new.next ≡ table.next + 1
-    → ((fs : List Frame) → IsKeptOf k fs (kept_in table) → IsKeptOf k (fs ++ f ∷ []) (kept_in new)) → IsKeeping k start new all left later
-keeping_on k start table new all before left found later f one h e d joined goes next kept = record {
-  joined = joined;
-  goes_on = goes_on_on start table new h.goes_on goes;
-  room = let r = h.room in let l = ap length e in omega (arith, r, l, next);
+    → before ≡ f ∷ left → found ≡ one ∷ later → KeepsFrames k (f ∷ []) table new → IsKeeping k start new all left later
+keeping_on k start table new all before left found later f one h e d keeps = record {
+  room = let r = h.room in let l = ap length e in let next = keeps.next in omega (arith, r, l, next);
   is_found = (subst (λ (fs : List Frame). AllZip (IsFound k) fs (one ∷ later)) e (subst (AllZip (IsFound k) before) d h.is_found)).1;
   done = h.done ++ f ∷ [];
   split = h.split ∙ (ap (λ (t : List Frame). h.done ++ t) e ∙ sym (append_assoc h.done (f ∷ []) left));
-  kept = λ fs was. subst (λ (t : List Frame). IsKeptOf k t (kept_in new)) (append_assoc fs h.done (f ∷ [])) (kept (fs ++ h.done) (h.kept fs was));
+  so_far = record {
+    joined = keeps.joined;
+    goes_on = goes_on_on start table new h.so_far.goes_on keeps.goes_on;
+    next = let first = h.so_far.next in let then = keeps.next in omega (arith, first, then, length-append h.done (f ∷ []));
+    kept = λ fs was. subst (λ (t : List Frame). IsKeptOf k t (kept_in new)) (append_assoc fs h.done (f ∷ [])) (keeps.kept (fs ++ h.done) (h.so_far.kept fs was));
+  };
 }

@@ -1,8 +1,8 @@
 //! What is held of the frames, and the certificates of it by round.
 
-ghost use Rattle.std.specs.Prelude.{◌≡◌, ◌++◌, ◌∷◌, ◌+◌, ◌<◌, ◌^◌, [], List, ℕ, OnOk, IfOk, length};
-ghost use Rattle.bk_committee.specs.Payload.{sizes_of};
-ghost use Rattle.bk_base.specs.Feed.{Frame, frame_of};
+ghost use Rattle.std.specs.Prelude.{◌≡◌, ◌++◌, ◌∷◌, ◌+◌, ◌<◌, ◌^◌, [], List, ℕ, None, OnOk, IfOk, length};
+ghost use Rattle.bk_committee.specs.Payload.{CommitteeValue, sizes_of};
+ghost use Rattle.bk_base.specs.Feed.{frame_of};
 ghost use Rattle.bk_certcheck.specs.Frames.{IsFound};
 ghost use Rattle.bk_certcheck.specs.Verdicts.{IsGood};
 ghost use Rattle.bk_certcheck.specs.declared.verdict.Verdict.TheVariants as verdict;
@@ -10,10 +10,9 @@ ghost use Rattle.bk_rounds.specs.Rounds.{rounds_with};
 ghost use Rattle.bk_commit.specs.Growth.{IsPrefix, IsPartOf};
 ghost use Rattle.bk_evidence.specs.Laws.{HaveSame};
 ghost use Rattle.bk_evidence.specs.Batches.{batch_with};
-ghost use Rattle.bk_order.specs.Frames.{rejects_by};
 ghost use Rattle.bk_order.specs.Intake.{IsKeptOf, first_later_frame};
-ghost use Rattle.bk_order.specs.private.Tallies.{CountsVerdict, IsNewDigest, IsNewId};
-ghost use Rattle.bk_order.specs.private.Joined.{GoesOn, IsJoined, kept_in};
+ghost use Rattle.bk_order.specs.private.Tallies.{IsNewDigest, IsNewId};
+ghost use Rattle.bk_order.specs.private.Joined.{IsJoined, KeepsFrames, KeepsVerdict, kept_in};
 
 use crate::judging::JudgedFrames;
 use crate::reject::Reject;
@@ -102,14 +101,8 @@ fn keep_good(
 ) -> Result<(), AllocError>
     requires joined { IsJoined committee.now table.old.held table.old.rounds }
     requires judged { (bytes : List ℕ) × IsGood committee.now bytes good }
-    ensures joined { OnOk result (IsJoined committee.now table.new.held table.new.rounds) }
-    ensures next { OnOk result (table.new.next ≡ table.old.next) }
-    ensures rounds { OnOk result (IsPartOf table.old.rounds.held table.new.rounds.held) }
-    ensures batches { OnOk result (table.new.batches ≡ table.old.batches) }
-    ensures certs { OnOk result (HaveSame table.new.held (table.old.held ++ good ∷ [])) }
-    ensures rejected { OnOk result (table.new.rejected.items ≡ table.old.rejected.items) }
-    ensures tally { OnOk result
-        (CountsVerdict table.old.held table.old.tally table.new.tally (verdict.Good good)) }
+    ensures { OnOk result
+        (KeepsVerdict committee.now None (verdict.Good good) table.old table.new) }
 {
     let new = hold(alloc, committee, &mut table.held, &mut table.rounds, good)?;
     table.tally.certs = one_more(table.tally.certs);
@@ -119,14 +112,8 @@ fn keep_good(
 
 // Keeps that the certificate of the frame with the next number breaks this rule.
 fn keep_broken(table: &mut Table, rule: Rule, id: Option<Digest32>) -> Result<(), AllocError>
-    ensures next { table.new.next ≡ table.old.next }
-    ensures rounds { table.new.rounds ≡ table.old.rounds }
-    ensures batches { table.new.batches ≡ table.old.batches }
-    ensures certs { table.new.held ≡ table.old.held }
-    ensures rejected { OnOk result (table.new.rejected.items
-        ≡ table.old.rejected.items ++ rejects_by table.old.next id (verdict.Broken rule)) }
-    ensures tally { OnOk result
-        (CountsVerdict table.old.held table.old.tally table.new.tally (verdict.Broken rule)) }
+    ensures { OnOk result ((k : CommitteeValue) → IsJoined k table.old.held table.old.rounds
+        → KeepsVerdict k id (verdict.Broken rule) table.old table.new) }
 {
     table.rejected.push(Reject {
         frame: table.next,
@@ -161,13 +148,8 @@ fn keep(
     requires joined { IsJoined committee.now table.old.held table.old.rounds }
     requires found { IsFound committee.now (frame_of frame.0 frame.1.items) found }
     requires room { table.old.next + 1 < 2 ^ 64 }
-    ensures joined { OnOk result (IsJoined committee.now table.new.held table.new.rounds) }
-    ensures goes_on { OnOk result (GoesOn table.old table.new) }
-    ensures next { OnOk result (table.new.next ≡ table.old.next + 1) }
-    ensures kept { OnOk result ((before : List Frame)
-        → IsKeptOf committee.now before (kept_in table.old)
-        → IsKeptOf committee.now (before ++ frame_of frame.0 frame.1.items ∷ [])
-        (kept_in table.new)) }
+    ensures { OnOk result (KeepsFrames committee.now (frame_of frame.0 frame.1.items ∷ [])
+        table.old table.new) }
 {
     match found {
         Found::Good(good) => keep_good(alloc, committee, table, good)?,
@@ -192,11 +174,7 @@ pub(crate) fn keep_all(
     requires mine { judged.committee ≡ committee.now }
     requires joined { IsJoined committee.now table.old.held table.old.rounds }
     requires room { table.old.next + length judged.frames < 2 ^ 64 }
-    ensures joined { OnOk result (IsJoined committee.now table.new.held table.new.rounds) }
-    ensures goes_on { OnOk result (GoesOn table.old table.new) }
-    ensures kept { OnOk result ((before : List Frame)
-        → IsKeptOf committee.now before (kept_in table.old)
-        → IsKeptOf committee.now (before ++ judged.frames) (kept_in table.new)) }
+    ensures { OnOk result (KeepsFrames committee.now judged.frames table.old table.new) }
 {
     let JudgedFrames {
         committee: _,

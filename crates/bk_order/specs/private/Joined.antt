@@ -1,5 +1,5 @@
 -- What is kept beside what is held.
-use Rattle.std.specs.Prelude.{◌≡◌, ℕ, ◌+◌, ◌<◌, ◌^◌, length, List, ◌++◌, reverse, take}
+use Rattle.std.specs.Prelude.{◌≡◌, ℕ, ◌+◌, ◌<◌, ◌^◌, length, List, Option, ◌++◌, reverse, take}
 use Rattle.bk_committee.specs.Payload.{CommitteeValue, sizes_of}
 use Rattle.bk_committee.specs.Sizes.{Sizes}
 use Rattle.bk_cert.specs.Node.{Node}
@@ -17,8 +17,12 @@ use Rattle.std.specs.List.{AllZip}
 use Rattle.bk_base.specs.Feed.{Frame}
 use Rattle.bk_certcheck.specs.declared.finding.Found.{Found}
 use Rattle.bk_certcheck.specs.Frames.{IsFound}
+use Rattle.bk_certcheck.specs.declared.verdict.Verdict.{Verdict}
+use Rattle.bk_evidence.specs.Laws.{HaveSame}
+use Rattle.bk_order.specs.Frames.{certs_by, rejects_by}
 use Rattle.bk_order.specs.Intake.{Kept, IsKeptOf}
 use Rattle.bk_order.specs.Orders.{Ordered, ordered_with}
+use Rattle.bk_order.specs.private.Tallies.{CountsVerdict}
 
 -- the table of rounds has what is held, all of it where nobody has twins and no id collides
 pub record IsJoined (k : CommitteeValue) (held : List Node) (rounds : RoundsValue) : Type 0 where
@@ -71,12 +75,27 @@ pub record IsSettling (z : Sizes) (held : List Node) (batches : List Batch) (old
   pub named : s.list.digests ≡ digests_of held s.flat
   pub found : AreFound batches s.list.digests s.list.found
 
+-- these frames are kept, and the one table goes on to the other
+pub record KeepsFrames (k : CommitteeValue) (fs : List Frame) (old new : Table) : Type 0 where
+  pub joined : IsJoined k new.held new.rounds
+  pub goes_on : GoesOn old new
+  pub next : new.next ≡ old.next + length fs
+  pub kept : (before : List Frame) → IsKeptOf k before (kept_in old) → IsKeptOf k (before ++ fs) (kept_in new)
+
+-- a certificate with this verdict and id is kept as the next frame's, whose number is not counted yet
+pub record KeepsVerdict (k : CommitteeValue) (id : Option (List ℕ)) (v : Verdict) (old new : Table) : Type 0 where
+  pub joined : IsJoined k new.held new.rounds
+  pub next : new.next ≡ old.next
+  pub rounds : IsPartOf old.rounds.held new.rounds.held
+  pub batches : new.batches ≡ old.batches
+  pub certs : HaveSame new.held (old.held ++ certs_by v)
+  pub rejected : new.rejected.items ≡ old.rejected.items ++ rejects_by old.next id v
+  pub tally : CountsVerdict old.held old.tally new.tally v
+
 -- of all frames these are left, with what was found of them; those before them are kept
 pub record IsKeeping (k : CommitteeValue) (start table : Table) (all left : List Frame) (found : List Found) : Type 0 where
-  pub joined : IsJoined k table.held table.rounds
-  pub goes_on : GoesOn start table
   pub room : table.next + length left < 2 ^ 64
   pub is_found : AllZip (IsFound k) left found
   pub done : List Frame
   pub split : all ≡ done ++ left
-  pub kept : (before : List Frame) → IsKeptOf k before (kept_in start) → IsKeptOf k (before ++ done) (kept_in table)
+  pub so_far : KeepsFrames k done start table

@@ -4,16 +4,14 @@ use Rattle.bk_evidence.proofs.Members.{same_offered}
 use Rattle.bk_order.proofs.Holding.{fit_here, new_id, free_place, id_is_new, is_fresh, joined_new, grown_new, joined_other, new_not_repeat, new_not_twin, new_not_collision}
 use Rattle.bk_order.proofs.table.hold.Goals as goal
 
-pub add-requires-clause-good : goal.add-requires-clause-good
-add-requires-clause-good c =
+pub add-requires : goal.add-requires
+add-requires c =
     let same : c.in_ok-shared.shared ≡ c.args.good = c.in_ok-shared.ensures ∙ (c.in_ok-cert.ensures ∙ (λ i. node_with (c.id-id.ensures i) (c.into_header.ensures i))) in
-    fit_here c.args.committee.now c.args.rounds.now.sizes c.requires.good.0 c.args.good c.in_ok-shared.shared c.n.ensures.committee c.requires.joined.sizes c.requires.good.1 same
-
-pub add-requires-clause-new : goal.add-requires-clause-new
-add-requires-clause-new c = new_id c.args.committee.now c.args.held.now c.args.rounds.now c.requires.joined c.in_ok-cert.cert c.in_ok-shared.shared c.in_ok-shared.ensures c.in_ok-offer.field-0 c.in_ok-offer.ensures.answer c.in-New.is
-
-pub add-requires-clause-free : goal.add-requires-clause-free
-add-requires-clause-free c = free_place c.args.committee.now c.args.held.now c.args.rounds.now c.requires.joined c.in_ok-cert.cert c.in_ok-shared.shared c.in_ok-shared.ensures c.in_ok-offer.field-0 c.in_ok-offer.ensures.answer c.in-New.is
+    record {
+      good = fit_here c.args.committee.now c.args.rounds.now.sizes c.requires.good.0 c.args.good c.in_ok-shared.shared c.n.ensures.committee c.requires.joined.sizes c.requires.good.1 same;
+      new = new_id c.args.committee.now c.args.held.now c.args.rounds.now c.requires.joined c.in_ok-cert.cert c.in_ok-shared.shared c.in_ok-shared.ensures c.in_ok-offer.field-0 c.in_ok-offer.ensures.answer c.in-New.is;
+      free = free_place c.args.committee.now c.args.held.now c.args.rounds.now c.requires.joined c.in_ok-cert.cert c.in_ok-shared.shared c.in_ok-shared.ensures c.in_ok-offer.field-0 c.in_ok-offer.ensures.answer c.in-New.is;
+    }
 
 pub returns-in_ok-add-in-New-clause-joined : goal.returns-in_ok-add-in-New-clause-joined
 returns-in_ok-add-in-New-clause-joined c = joined_new c.args.committee.now c.args.held.now c.args.rounds.now c.requires.joined c.in_ok-cert.cert c.in_ok-shared.shared c.in_ok-shared.ensures c.in_ok-offer.field-0 c.offer.new.self c.add.new.self
