@@ -10,7 +10,7 @@ ghost use Rattle.bk_rounds.specs.Rounds.{rounds_with};
 ghost use Rattle.bk_commit.specs.Growth.{IsPrefix, IsPartOf};
 ghost use Rattle.bk_evidence.specs.Laws.{HaveSame};
 ghost use Rattle.bk_evidence.specs.Batches.{batch_with};
-ghost use Rattle.bk_order.specs.Intake.{IsKeptOf, first_later_frame};
+ghost use Rattle.bk_order.specs.Intake.{IsKeptOf};
 ghost use Rattle.bk_order.specs.private.Tallies.{IsNewDigest, IsNewId};
 ghost use Rattle.bk_order.specs.private.Joined.{IsJoined, KeepsFrames, KeepsVerdict, kept_in};
 

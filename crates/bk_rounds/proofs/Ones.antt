@@ -12,7 +12,7 @@ use Rattle.std.proofs.lemmas.List.Elements.{Contains-get_or, All-from_recursion,
 use Rattle.std.proofs.lemmas.List.Sums.{sum_by-cons}
 use Rattle.std.specs.Cmp.{nat_eq_equiv}
 use Rattle.std.proofs.lemmas.Map.Views.{list_any-from_Contains}
-use Rattle.bk_committee.specs.Sizes.{Sizes, Weigh, weight, weight_of, members, total, quorum}
+use Rattle.bk_committee.specs.Sizes.{Sizes, Weigh, weight, weight_of, members, quorum}
 use Rattle.bk_cert.specs.Node.{Node}
 use Rattle.bk_cert.specs.Clear.{IsClear}
 use Rattle.bk_rounds.specs.Admission.{IsAdmittedIn, AreFit}
@@ -33,10 +33,6 @@ sum-ones : (ws : List ℕ) → AllByRecursion (λ w. w ≡ 1) ws → sum ws ≡ 
 sum-ones [] h = refl
 sum-ones (w ∷ ws) h = let rest = sum-ones ws h.1 in let one = h.0 in omega (arith, sum_by-cons (λ (x : ℕ). x) w ws, rest, one)
 
--- all members weigh as many as they are
-pub total-ones : (z : Sizes) → WeighOne z → total z ≡ members z
-total-ones z ones = sum-ones z.weights (recursion_from_All _ z.weights ones)
-
 -- at least this many members have P
 pub record Count (z : Sizes) (P : ℕ → Type 0) (least : ℕ) : Type 0 where
   pub who : List ℕ
@@ -48,15 +44,6 @@ pub record Count (z : Sizes) (P : ℕ → Type 0) (least : ℕ) : Type 0 where
 -- what weighs so much is so many, and the other way round
 pub weigh_from_count : (z : Sizes) (P : ℕ → Type 0) (least : ℕ) → WeighOne z → Count z P least → Weigh z P least
 weigh_from_count z P least ones h = record { who = h.who; apart = h.apart; each = h.each; enough = omega (arith, h.enough, weight_of-ones z ones h.who h.inside) }
-
-pub count_from_weigh : (z : Sizes) (P : ℕ → Type 0) (least : ℕ) → WeighOne z → ((x : ℕ) → P x → x < members z) → Weigh z P least → Count z P least
-count_from_weigh z P least ones low h = record {
-  who = h.who;
-  apart = h.apart;
-  inside = λ x t. low x (h.each x t);
-  each = h.each;
-  enough = omega (arith, h.enough, weight_of-ones z ones h.who (λ x t. low x (h.each x t)));
-}
 
 -- admission by weight asks for the parents at least
 pub by_parents : (z : Sizes) (held : List Node) (r : ℕ) (c : Node) → IsAdmittedIn z held r c → IsAdmittedByParents held r c

@@ -23,7 +23,6 @@ use Rattle.bk_rounds.proofs.Admitted.{admitted_held}
 use Rattle.bk_rounds.proofs.Counting.{apart_from_none, weigh-le}
 use Rattle.bk_rounds.proofs.Grown.{IsWithin, links_more, links_back, admitted_low}
 use Rattle.bk_rounds.proofs.Weighed.{inside-le}
-use Rattle.bk_rounds.proofs.Named.{push_default}
 use Rattle.bk_rounds.proofs.Filled.{present_within}
 
 -- the place of a member's certificate in the round after
@@ -96,13 +95,6 @@ kept_other v w round sum odd e r n = ⊎_elim
   where
     halves : (a b : ℕ) → a % 2 ≡ 1 → b % 2 ≡ 1 → a / 2 ≡ b / 2 → a ≡ b
     halves a b o p q = omega (arith, o, p, q)
-
--- a further entry is 0
-pub kept_pushed : (v w : Votes) → w.weights.items ≡ v.weights.items ++ 0 ∷ [] → (r : ℕ) → kept_at w r ≡ kept_at v r
-kept_pushed v w e r = ⊎_elim
-    (λ odd. kept_odd w r odd ∙ (ap (λ (ws : List ℕ). get_or ws (r / 2) 0) e ∙ (push_default v.weights.items 0 (r / 2) ∙ sym (kept_odd v r odd))))
-    (λ even. kept_even w r even ∙ sym (kept_even v r even))
-    (cases_eq (r % 2) 1)
 
 -- what is present is of round 1 or later
 pub present_from : (z : Sizes) (held : List Node) (a : CertRef) → IsPresent z held a → 1 ≤ a.round

@@ -1,11 +1,11 @@
 -- What members weigh together.
-use Rattle.std.proofs.Common.{◌≡◌, ◌≢◌, ℕ, ◌+◌, ◌≤◌, ◌↔◌, Bool, IsTrue, List, [], ◌∷◌, refl, sym, ap, ◌∙◌, subst, eqb, ⊎_elim, arith}
+use Rattle.std.proofs.Common.{◌≡◌, ◌≢◌, ℕ, ◌+◌, ◌≤◌, ◌↔◌, List, [], ◌∷◌, refl, sym, ap, ◌∙◌, subst, eqb, ⊎_elim, arith}
 use Rattle.std.specs.List.{Contains, IsDistinct, list_any}
 use Rattle.std.specs.Cmp.{nat_eq_equiv}
 use Rattle.std.proofs.lemmas.Bool.{cases_eq, eqb-true, false_from_ne_true, both_ways}
 use Rattle.std.proofs.lemmas.Map.Views.{Contains-from_any, list_any-from_Contains}
 use Rattle.std.proofs.lemmas.List.Sums.{sum_by-cons}
-use Rattle.bk_committee.specs.Sizes.{Sizes, Weigh, weight, weight_of, total}
+use Rattle.bk_committee.specs.Sizes.{Sizes, weight, weight_of, total}
 use Rattle.bk_rounds.specs.Members.{Has, IsWeightOf}
 use Rattle.bk_rounds.proofs.Counting.{apart_from_none, none_from_apart, weigh-le}
 use Rattle.bk_cert.proofs.Lists.{contains_cases, contains_first, contains_later, none_in_nil}
@@ -95,11 +95,3 @@ inside-le z (x ∷ xs) ys apart inside =
     twice : (y : ℕ) → Contains xs y → y ≡ x → ⊥
     twice y t e = both_ways (list_any (eqb x) xs) (none_from_apart x xs apart.0)
         (list_any-from_Contains nat_eq_equiv x xs (subst (Contains xs) e t))
-
--- a set's weight decides what its members weigh
-pub weigh_iff : (z : Sizes) (P : ℕ → Type 0) (set : ℕ) (sum least : ℕ) (t : Bool) → IsWeightOf z set sum → ((x : ℕ) → Has set x ↔ P x)
-    → IsTrue t ↔ (least ≤ sum) → IsTrue t ↔ Weigh z P least
-weigh_iff z P set sum least t w is test = (
-  (λ yes. record { who = w.who; apart = w.apart; each = λ x h. (is x).0 ((w.lists x).0 h); enough = omega (arith, test.0 yes, w.is) }),
-  (λ h. test.1 (omega (arith, h.enough, w.is, inside-le z h.who w.who h.apart (λ x k. (w.lists x).1 ((is x).1 (h.each x k)))))),
-)

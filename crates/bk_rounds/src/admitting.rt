@@ -1,11 +1,10 @@
 //! A further certificate, and all that it makes admitted.
 
-ghost use Rattle.std.specs.Prelude.{◌≡◌, ℕ, ◌+◌, ◌<◌, ◌≤◌, ◌↔◌, ◌⊎◌, ◌++◌, [], true, false, length, map, All, Contains, slice_set, vec_len, vec_capacity};
+ghost use Rattle.std.specs.Prelude.{◌≡◌, ℕ, ◌+◌, ◌<◌, ◌≤◌, ◌↔◌, [], true, false, length, map, All, Contains, slice_set, vec_len, vec_capacity};
 ghost use Rattle.bk_cert.specs.Place.{IsListed};
 ghost use Rattle.bk_cert.specs.declared.place.CertRef.{CertRef};
 ghost use Rattle.bk_rounds.specs.Members.{Has};
-ghost use Rattle.bk_rounds.specs.private.Numbered.{IsTable, id_of, round_of, author_of, parents_of, row_of, is_marked, count_unmarked, IsInside};
-ghost use Rattle.bk_rounds.specs.private.Names.{set_of};
+ghost use Rattle.bk_rounds.specs.private.Numbered.{IsTable, id_of, round_of, author_of, row_of, is_marked, count_unmarked};
 ghost use Rattle.bk_rounds.specs.private.Tied.{CanTell, IsAuthorIn, IsTold, place_at};
 
 use crate::members::Members;

@@ -1,16 +1,16 @@
 //! The table of certificates, and the votes that they give.
 
-ghost use Rattle.std.specs.Prelude.{◌^◌, ◌≡◌, ◌≢◌, ◌++◌, ◌∷◌, OnOk, OnErr, ℕ, ◌-◌, ◌<◌, ◌≤◌, ◌↔◌, [], Contains, length, sum, IfSome, IfNone, IfOk, IsTrue, MatchOption};
+ghost use Rattle.std.specs.Prelude.{◌^◌, ◌≡◌, ◌++◌, ◌∷◌, OnOk, OnErr, ℕ, ◌-◌, ◌<◌, ◌≤◌, ◌↔◌, [], Contains, IfSome, IfNone, IfOk, IsTrue, MatchOption};
 ghost use Rattle.bk_committee.specs.Sizes.{members, faulty, leader};
 ghost use Rattle.bk_committee.specs.Payload.{sizes_of};
 ghost use Rattle.bk_cert.specs.Node.{Node};
 ghost use Rattle.bk_cert.specs.Place.{place_of, Lists};
 ghost use Rattle.bk_cert.specs.Clear.{IsClear};
 ghost use Rattle.bk_cert.specs.declared.place.CertRef.{CertRef};
-ghost use Rattle.bk_rounds.specs.Admission.{StandsAt, IsPresent, IsFit, AreFit, WaitsAt, last_round};
+ghost use Rattle.bk_rounds.specs.Admission.{StandsAt, IsPresent, AreFit, WaitsAt, last_round};
 ghost use Rattle.bk_rounds.specs.Links.{Links};
 ghost use Rattle.bk_rounds.specs.Members.{Has, IsWeightOf};
-ghost use Rattle.bk_rounds.specs.Rounds.{rounds_with, sizes_with, BecomesPresent, IsAddable};
+ghost use Rattle.bk_rounds.specs.Rounds.{rounds_with, BecomesPresent, IsAddable};
 ghost use Rattle.bk_rounds.specs.Votes.{IsVoted, IsLast, VotesIn, WeighExactly};
 
 use crate::members::Members;
@@ -50,30 +50,11 @@ impl Rounds {
     {
         // The number of members also says that it is 1 to 128.
         let _ = committee.n();
-        let rounds = Rounds::with_weights(alloc, committee.weights(), key)?;
-        Ok(rounds)
-    }
-
-    /// A table with no certificate, of a committee with these weights, each above 0.
-    pub fn with_weights(alloc: Global, weights: &[u32], key: HashKey) -> Result<Rounds, AllocError>
-        requires some { 1 ≤ length weights.now }
-        requires few { length weights.now ≤ 128 }
-        requires heavy { 1 ≤ sum weights.now }
-        ensures { IfOk result (λ rounds. rounds ≡ rounds_with (sizes_with weights.now) []) }
-    {
-        let table = Table::with_weights(alloc, weights, key)?;
+        let table = Table::with_weights(alloc, committee.weights(), key)?;
         Ok(Rounds {
             table,
             votes: Votes::new(alloc),
         })
-    }
-
-    /// Whether a certificate may be added: it is fit, and neither its id nor its place is held. A
-    /// certificate that breaks no local rule is fit.
-    pub fn can_add(&self, cert: &SharedCert) -> bool
-        ensures { IsTrue result ↔ IsAddable self.now cert.now }
-    {
-        self.table.can_add(cert)
     }
 
     /// Adds a certificate, and answers the places of all that this makes admitted, by round and

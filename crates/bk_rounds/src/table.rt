@@ -1,20 +1,16 @@
 //! The certificates that are held, and which of them are admitted.
 
-ghost use Rattle.std.specs.Prelude.{◌≡◌, ◌≢◌, ◌++◌, ◌∷◌, OnOk, OnErr, ℕ, ◌-◌, ◌<◌, ◌≤◌, ◌^◌, ◌↔◌, ◌⊎◌, [], true, Contains, length, sum, IfSome, IfNone, IfOk, IsTrue};
-ghost use Rattle.std.specs.List.Sorted.{IsStrictlySortedBy};
-ghost use Rattle.std.specs.Ordering.{nat_cmp};
-ghost use Rattle.std.specs.Cmp.Lexicographic.{slice_cmp};
-ghost use Rattle.bk_committee.specs.Sizes.{members, total, faulty, quorum, weight, leader};
+ghost use Rattle.std.specs.Prelude.{◌≡◌, ◌++◌, ◌∷◌, OnOk, OnErr, ℕ, ◌-◌, ◌<◌, ◌≤◌, ◌^◌, ◌↔◌, ◌⊎◌, [], Contains, length, sum, IfSome, IfNone, IfOk, IsTrue};
+ghost use Rattle.bk_committee.specs.Sizes.{members, total, faulty, weight, leader};
 ghost use Rattle.bk_cert.specs.Node.{Node};
 ghost use Rattle.bk_cert.specs.Place.{place_of, Lists};
 ghost use Rattle.bk_cert.specs.Clear.{IsClear};
 ghost use Rattle.bk_cert.specs.declared.place.CertRef.{CertRef};
 ghost use Rattle.bk_index.specs.Places.{number_of};
-ghost use Rattle.bk_rounds.specs.Admission.{StandsAt, IsPresent, IsFit, AreFit, WaitsAt, last_round};
+ghost use Rattle.bk_rounds.specs.Admission.{StandsAt, IsPresent, AreFit, WaitsAt, last_round};
 ghost use Rattle.bk_rounds.specs.Links.{Links};
 ghost use Rattle.bk_rounds.specs.Members.{Has, IsWeightOf};
 ghost use Rattle.bk_rounds.specs.Rounds.{rounds_with, sizes_with, BecomesPresent, IsAddable};
-ghost use Rattle.bk_rounds.specs.private.Numbered.{is_marked};
 ghost use Rattle.bk_rounds.specs.private.Names.{AreNames};
 ghost use Rattle.bk_rounds.specs.private.Tied.{IsPlaced, IsNumberAt, WaitsBelow};
 
@@ -26,12 +22,10 @@ use crate::preparing::prepare;
 use crate::rows::Rows;
 use crate::slots::Slot;
 use crate::weights::Weights;
-use bk_cert::{CertRef, Header, SharedCert};
-use bk_certcheck::MOST_ROUND;
+use bk_cert::{CertRef, SharedCert};
 use bk_digest::Digest32;
 use bk_index::{HashKey, PlaceIndex};
 use std::alloc::{AllocError, Global};
-use std::cmp::Ordering;
 use std::marker::Model;
 
 /// The held certificates of a committee, and which of them are admitted. Contracts see it as they
@@ -81,25 +75,6 @@ impl Table {
             buffers: Buffers::new(alloc),
             top: 0,
         })
-    }
-
-    /// Whether a certificate may be added: it is fit, and neither its id nor its place is held. A
-    /// certificate that breaks no local rule is fit.
-    pub fn can_add(&self, cert: &SharedCert) -> bool
-        ensures { IsTrue result ↔ IsAddable self.now cert.now }
-    {
-        let header = cert.header();
-        let place = CertRef {
-            round: header.round(),
-            author: header.author(),
-        };
-        if self.has(place) {
-            return false;
-        }
-        if self.has_id(cert.id()) {
-            return false;
-        }
-        is_fit(self.members(), header)
     }
 
     /// Adds a certificate, and answers the places of all that this makes admitted, by round and
@@ -300,40 +275,6 @@ fn admitted_number(names: &Names, places: &PlaceIndex, place: CertRef) -> Option
         }
         None => None,
     }
-}
-
-// Whether a header is good for this many members.
-fn is_fit(members: u8, header: &Header) -> bool
-    ensures member { IsTrue result → header.now.author < members }
-    ensures round { IsTrue result → (1 ≤ header.now.round) × (header.now.round ≤ last_round) }
-    ensures ascending { IsTrue result → IsStrictlySortedBy (slice_cmp nat_cmp) header.now.parents }
-    ensures first { IsTrue result → header.now.round ≡ 1 → header.now.parents ≡ [] }
-    ensures fit { header.now.author < members → 1 ≤ header.now.round
-        → header.now.round ≤ last_round
-        → IsStrictlySortedBy (slice_cmp nat_cmp) header.now.parents
-        → (header.now.round ≡ 1 → header.now.parents ≡ []) → IsTrue result }
-{
-    let round = header.round();
-    if header.author() >= members || round == 0 || round > MOST_ROUND {
-        return false;
-    }
-    if round == 1 && !header.parents().is_empty() {
-        return false;
-    }
-    do_ascend(header.parents())
-}
-
-// Whether each of the ids is before the next one.
-fn do_ascend(ids: &[Digest32]) -> bool
-    ensures { IsTrue result ↔ IsStrictlySortedBy (slice_cmp nat_cmp) ids.now }
-{
-    for i in 1..ids.len() {
-        match ids[i - 1].cmp(&ids[i]) {
-            Ordering::Less => {}
-            Ordering::Equal | Ordering::Greater => return false,
-        }
-    }
-    true
 }
 
 // The places of what is held and not admitted, in the order of their numbers.

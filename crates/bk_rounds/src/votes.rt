@@ -1,6 +1,6 @@
 //! The votes for anchors, added up as certificates become admitted.
 
-ghost use Rattle.std.specs.Prelude.{◌≡◌, ◌≢◌, ℕ, ◌+◌, ◌-◌, ◌*◌, ◌<◌, ◌≤◌, ◌%◌, ◌^◌, [], Contains, OnOk, length};
+ghost use Rattle.std.specs.Prelude.{◌≡◌, ℕ, ◌+◌, ◌-◌, ◌*◌, ◌≤◌, ◌%◌, [], Contains, OnOk, length};
 ghost use Rattle.bk_committee.specs.Sizes.{faulty, total};
 ghost use Rattle.bk_cert.specs.Place.{IsListed};
 ghost use Rattle.bk_cert.specs.declared.place.CertRef.{CertRef};

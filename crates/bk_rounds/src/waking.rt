@@ -1,7 +1,7 @@
 //! Who waits is woken by what is admitted.
 
 ghost use Rattle.std.specs.Prelude.{◌≡◌, ℕ, ◌+◌, ◌<◌, ◌≤◌, [], length, Contains, true, false, OnOk, OnErr, All, vec_len, vec_capacity};
-ghost use Rattle.bk_rounds.specs.private.Numbered.{IsInsideRows, IsTaken, IsEntered, IsTable, IsSettling, CanWake, AreWoken, row_of, is_marked, count_unmarked, Extends};
+ghost use Rattle.bk_rounds.specs.private.Numbered.{IsInsideRows, IsTaken, IsEntered, IsTable, IsSettling, KeepsRows, CanWake, AreWoken, row_of, is_marked, count_unmarked, Extends};
 
 use crate::slots::{Slot, is_ready};
 use crate::weights::Weights;
@@ -119,9 +119,7 @@ pub(crate) fn register(
     requires number { k < length marks.now }
     requires parents { All (λ p. p < length marks.now) parents.now }
     requires rows { IsInsideRows (length marks.now) pending.old }
-    ensures rows { IsInsideRows (length marks.now) pending.new }
-    ensures kept { (m i : ℕ) → Contains (row_of pending.old m) i
-        → Contains (row_of pending.new m) i }
+    ensures keeps { KeepsRows (length marks.now) pending.old pending.new }
     ensures all { OnOk result ((p : ℕ) → Contains parents.now p → is_marked marks.now p ≡ false
         → Contains (row_of pending.new p) k) }
 {

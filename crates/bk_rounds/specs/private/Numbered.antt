@@ -97,6 +97,11 @@ pub record IsEntered (pending after : Pending) (p k : ℕ) : Type 0 where
   pub other : (m : ℕ) → m ≢ p → row_of after m ≡ row_of pending m
   pub here : row_of after p ≡ row_of pending p ++ k ∷ []
 
+-- all in the rows afterwards are numbers, and who was in a row is there still
+pub record KeepsRows (n : ℕ) (pending after : Pending) : Type 0 where
+  pub rows : IsInsideRows n after
+  pub kept : (m i : ℕ) → Contains (row_of pending m) i → Contains (row_of after m) i
+
 -- marks stay, and what is marked anew is what the list gains
 pub record Extends (old new : List Bool) (before after : List ℕ) : Type 0 where
   pub length : length new ≡ length old

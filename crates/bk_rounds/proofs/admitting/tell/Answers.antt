@@ -1,4 +1,4 @@
-use Rattle.std.proofs.Common.{◌≡◌, ◌+◌, ◌<◌, ◌++◌, ◌∷◌, [], ◌∙◌, ◌↔◌, ℕ, inl, inr, ⊎_elim, List, sym, ap, subst, arith, length, map, get_or, take}
+use Rattle.std.proofs.Common.{◌≡◌, ◌+◌, ◌<◌, ◌++◌, ◌∷◌, [], ◌∙◌, ◌↔◌, ℕ, List, sym, ap, subst, arith, length, map, get_or, take}
 use Rattle.std.specs.List.{Contains}
 use Rattle.std.proofs.lemmas.List.{take_more, take_all, get_or-map, length-set}
 use Rattle.std.proofs.lemmas.List.Elements.{Contains-get_or}

@@ -20,7 +20,7 @@ returns-in_err-register-clause-grows c =
     grows_on c.args.names.now c.own_number.new.names _
     (grows_on c.args.names.now c.numbers_of.new.names c.own_number.new.names c.in_ok-parents.ensures.grows c.in_ok-number.ensures.grows)
     (grows_rows c.own_number.new.names _ n refl refl refl refl
-    (subst (λ (k : ℕ). IsInsideRows k c.register.new.pending) (ap length c.deref.ensures.value ∙ n.marks) c.in_err-register.ensures.rows) c.in_err-register.ensures.kept)
+    (subst (λ (k : ℕ). IsInsideRows k c.register.new.pending) (ap length c.deref.ensures.value ∙ n.marks) c.in_err-register.ensures.keeps.rows) c.in_err-register.ensures.keeps.kept)
 
 pub returns-clause-grows : goal.returns-clause-grows
 returns-clause-grows c =
@@ -28,7 +28,7 @@ returns-clause-grows c =
     grows_on c.args.names.now c.own_number.new.names _
     (grows_on c.args.names.now c.numbers_of.new.names c.own_number.new.names c.in_ok-parents.ensures.grows c.in_ok-number.ensures.grows)
     (grows_rows c.own_number.new.names _ n refl refl refl refl
-    (subst (λ (k : ℕ). IsInsideRows k c.register.new.pending) (ap length c.deref.ensures.value ∙ n.marks) c.in_ok-register.ensures.rows) c.in_ok-register.ensures.kept)
+    (subst (λ (k : ℕ). IsInsideRows k c.register.new.pending) (ap length c.deref.ensures.value ∙ n.marks) c.in_ok-register.ensures.keeps.rows) c.in_ok-register.ensures.keeps.kept)
 
 pub returns-clause-prepared : goal.returns-clause-prepared
 returns-clause-prepared c =

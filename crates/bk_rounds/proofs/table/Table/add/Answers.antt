@@ -1,4 +1,4 @@
-use Rattle.std.proofs.Common.{◌≡◌, ◌≢◌, ◌-◌, ◌≤◌, ◌++◌, ◌∷◌, [], ◌∙◌, ◌↔◌, ℕ, cond, List, Some, None, refl, sym, ap, subst, arith, length, get_or, map}
+use Rattle.std.proofs.Common.{◌≡◌, ◌-◌, ◌≤◌, ◌++◌, ◌∷◌, [], ◌∙◌, ◌↔◌, ℕ, cond, List, Some, None, refl, sym, ap, subst, arith, length, get_or, map}
 use Rattle.std.specs.List.{Contains}
 use Rattle.std.specs.Ordering.{is_eq}
 use Rattle.std.specs.Vec.{with_items}
@@ -11,9 +11,9 @@ use Rattle.bk_cert.specs.declared.place.CertRef.{CertRef}
 use Rattle.bk_rounds.specs.declared.slots.Slot.{Slot}
 use Rattle.bk_rounds.specs.declared.names.Names.{Names}
 use Rattle.bk_cert.specs.Place.{place_of, Lists, place_cmp}
-use Rattle.bk_rounds.specs.Admission.{IsFit, IsPresent}
+use Rattle.bk_rounds.specs.Admission.{IsPresent}
 use Rattle.bk_rounds.specs.Rounds.{RoundsValue, IsAddable, rounds_with}
-use Rattle.bk_rounds.specs.private.Numbered.{IsTable, IsInside, round_of, author_of, parents_of, is_marked, count_unmarked}
+use Rattle.bk_rounds.specs.private.Numbered.{IsTable, IsInside, author_of, parents_of, is_marked, count_unmarked}
 use Rattle.bk_index.specs.Places.{number_of}
 use Rattle.bk_rounds.specs.private.Tied.{IsWhole, IsTied, place_at}
 use Rattle.bk_cert.proofs.Refs.{same_place}
