@@ -1,5 +1,5 @@
 -- What a judged answer says: the answer, and what keeps its feed from counting whole.
-use Rattle.std.proofs.Common.{◌≡◌, ℕ, Bool, List, Option}
+use Rattle.std.proofs.Common.{ℕ, Bool, List, Option}
 use Rattle.bk_base.specs.Feed.{FeedValue}
 use Rattle.bk_frames.specs.Device.{Device}
 use Rattle.bk_results.specs.Devices.{AreFeedWith}

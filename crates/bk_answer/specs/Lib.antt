@@ -5,3 +5,4 @@ pub mod Closed
 pub mod Answers
 pub mod Values
 pub mod Flaws
+pub mod private

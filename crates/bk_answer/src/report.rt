@@ -1,16 +1,12 @@
 //! The report of a feed.
 
-ghost use Rattle.std.specs.Prelude.{◌≡◌, ◌^◌, ◌<◌, ◌≤◌, ◌++◌, [], ℕ, List, false, length, OnOk, IfOk, IfErr};
-ghost use Rattle.bk_frames.specs.Device.{CanBeUsed};
-ghost use Rattle.bk_base.specs.Feed.{Frame, FeedValue, IsFeed};
-ghost use Rattle.bk_base.specs.Genesis.{total_of};
-ghost use Rattle.bk_order.specs.Intake.{HasTaken};
-ghost use Rattle.bk_order.specs.Orders.{AreWaiting};
-ghost use Rattle.bk_order.specs.Stops.{HasNoStop};
-ghost use Rattle.bk_report.specs.Leaves.{leaves_of};
-ghost use Rattle.bk_report.specs.Lines.{text_of};
-ghost use Rattle.bk_report.specs.RunLines.{head_lines, order_lines, batches_lines, ledger_lines};
+ghost use Rattle.std.specs.Prelude.{◌≡◌, IfOk};
+ghost use Rattle.bk_answer.specs.Answers.{IsMadeOf};
 ghost use Rattle.bk_answer.specs.RunReport.{IsReportOf};
+ghost use Rattle.bk_answer.specs.Values.{closed_value};
+ghost use Rattle.bk_answer.specs.private.Shown.{IsShownOf, shown_text};
+ghost use Rattle.bk_base.specs.Feed.{FeedValue};
+ghost use Rattle.bk_frames.specs.Device.{CanBeUsed};
 ghost use Rattle.bk_report.specs.Pages.{Written, blank};
 
 use crate::answer::Answer;
@@ -18,8 +14,6 @@ use crate::closed::Closed;
 use bk_base::Row;
 use bk_cert::CertRef;
 use bk_frames::{Sink, WriteFault};
-use bk_ledger::Ledger;
-use bk_order::Intake;
 use bk_report::{Page, Parts, Sheets, leaves_of, sheets_for, write_run};
 use bk_results::{Fault, Status};
 use std::alloc::{AllocError, Global};
@@ -37,15 +31,11 @@ struct Shown {
 }
 
 // Finds what waits and the accounts.
-fn find_shown(alloc: Global, intake: &Intake, ledger: &Ledger) -> Result<Shown, AllocError>
-    ensures waiting { IfOk result (λ s. (frames : List Frame) → HasTaken frames intake.now
-        → intake.now.failed ≡ false → HasNoStop intake.now.committee frames
-        → AreWaiting intake.now.committee frames s.waiting.items) }
-    ensures rows { IfOk result (λ s. s.rows.items ≡ ledger.now.state.rows) }
-    ensures total { IfOk result (λ s. s.total ≡ total_of s.rows.items) }
-    ensures leaves { IfOk result (λ s. s.leaves.items ≡ leaves_of s.rows.items) }
+fn find_shown(alloc: Global, closed: &Closed<'_>) -> Result<Shown, AllocError>
+    ensures { IfOk result (IsShownOf (closed_value closed.now)) }
 {
-    let waiting = intake.waiting()?;
+    let ledger = closed.ledger;
+    let waiting = closed.order.waiting()?;
     let rows = ledger.state().rows(alloc)?;
     let leaves = leaves_of(alloc, &rows)?;
     let total = ledger.state().total();
@@ -63,29 +53,18 @@ fn write_shown<R: Threads + Sync, K: Sink>(
     sink: &mut K,
     page: &mut Page,
     sheets: &mut Option<Sheets>,
-    intake: &Intake,
-    ledger: &Ledger,
+    closed: &Closed<'_>,
     shown: &Shown,
 ) -> Result<(), WriteFault>
     requires sound { CanBeUsed (K.state sink.old) }
-    requires rejected { length intake.now.kept.rejected < 2 ^ 32 }
-    requires waiting { length shown.now.waiting.items < 2 ^ 32 }
-    requires anchors { length intake.now.ordered.anchors < 2 ^ 32 }
-    requires order { length intake.now.ordered.order < 2 ^ 32 }
-    requires counts { length ledger.now.counts < 2 ^ 32 }
-    requires receipts { length ledger.now.receipts < 2 ^ 32 }
-    requires rows { length shown.now.rows.items < 2 ^ 32 }
-    requires total { shown.now.total ≡ total_of shown.now.rows.items }
-    requires leaves { shown.now.leaves.items ≡ leaves_of shown.now.rows.items }
+    requires closed { (feed : FeedValue) × IsMadeOf (closed_value closed.now) feed }
+    requires shown { IsShownOf (closed_value closed.now) shown.now }
     requires blank { page.old ≡ blank }
-    ensures written { Written result (K.state sink.old) (K.state sink.new) page.old page.new
-        (text_of (head_lines intake.now.committee intake.now.kept.next
-        ++ order_lines intake.now.kept.rejected shown.now.waiting.items
-        intake.now.ordered.anchors intake.now.ordered.order
-        ++ batches_lines ledger.now.counts intake.now.ordered.payloads.missing
-        ++ ledger_lines ledger.now.receipts shown.now.rows.items)) }
-    ensures empty { OnOk result (page.new.bytes ≡ []) }
+    ensures { Written result (K.state sink.old) (K.state sink.new)
+        (shown_text (closed_value closed.now) shown.now) }
 {
+    let Closed { order, ledger } = *closed;
+    let intake = order.intake;
     let parts = Parts {
         committee: intake.committee(),
         frames: intake.next(),
@@ -121,13 +100,12 @@ impl Answer for Report {
         closed: &Closed<'_>,
         sink: &mut K,
     ) -> Result<Status, Fault> {
-        let intake = closed.order.intake;
-        let ledger = closed.ledger;
-        let shown = find_shown(alloc, intake, ledger)?;
-        let lines = ledger.receipts().len().saturating_add(shown.rows.len());
+        let shown = find_shown(alloc, closed)?;
+        let lines = closed.ledger.receipts().len();
+        let lines = lines.saturating_add(shown.rows.len());
         let mut page = Page::new(alloc)?;
         let mut sheets = sheets_for(alloc, lines)?;
-        write_shown(rt, sink, &mut page, &mut sheets, intake, ledger, &shown)?;
+        write_shown(rt, sink, &mut page, &mut sheets, closed, &shown)?;
         Ok(closed.order.reach())
     }
 }

@@ -1,9 +1,11 @@
 -- What a summary's lines are of its feed.
-use Rattle.std.proofs.Common.{◌≡◌, ℕ, ◌^◌, ◌<◌, List, [], length, map, Option, refl, ap, subst, arith}
+use Rattle.std.proofs.Common.{◌≡◌, ℕ, ◌^◌, ◌<◌, List, length, map, Option, refl, ap, arith}
 use Rattle.bk_frames.proofs.Devices.{gave_all}
 use Rattle.std.proofs.KnownBytes.{Keeps-refl}
 use Rattle.std.proofs.lemmas.List.{length-map}
 use Rattle.bk_frames.specs.Device.{Device, GaveAll}
+use Rattle.bk_frames.specs.Writing.{StopsWriting, Writes}
+use Rattle.bk_frames.specs.declared.writing.WriteFault.{WriteFault}
 use Rattle.bk_base.specs.declared.genesis.Row.{Row}
 use Rattle.bk_base.specs.Feed.{FeedValue, IsFeed, spelling, genesis_of}
 use Rattle.bk_rules.specs.declared.receipt.Receipt.{Receipt}
@@ -12,10 +14,8 @@ use Rattle.bk_rules.proofs.Folding.{length-receipts}
 use Rattle.bk_apply.specs.Answers.{PartIsOut, ReportIsOut}
 use Rattle.bk_results.specs.Devices.{IsUntouched, AreFeed}
 use Rattle.bk_report.specs.Lines.{text_of}
-use Rattle.bk_report.specs.Pages.{PageValue, blank, Puts, Stops}
 use Rattle.bk_tx.specs.Batches.{payloads_of, feed_transactions, count_in}
-use Rattle.bk_report.specs.Report.{lines_of, apply_report_of}
-use Rattle.bk_report.proofs.Putting.{all_out, part_out, part_size}
+use Rattle.bk_report.specs.Report.{IsApplyReport, lines_of, apply_report_of}
 use Rattle.bk_ledger.proofs.Growth.{few_rows}
 use Rattle.bk_ledger.proofs.Runs.{few_batches, few_feed_transactions}
 
@@ -46,24 +46,17 @@ lines_are feed counts receipts rows l = λ i. text_of (lines_of (l.counts_are i)
 pub are_feed : (known now : Device) (feed : FeedValue) → IsFeed feed → GaveAll known now (λ bytes. bytes ≡ spelling feed) → GaveAll known now AreFeed
 are_feed known now feed good spelled = gave_all known now (λ bytes. bytes ≡ spelling feed) AreFeed spelled (λ bytes is. (feed, good, is))
 
--- the front of the report is out where the sink stopped
-pub part_is_out : (known now old new : Device) (page : PageValue) (feed : FeedValue) (counts : List (Option ℕ)) (receipts : List Receipt) (rows : List Row) (written : ℕ) → page ≡ blank → IsFeed feed
-    → GaveAll known now (λ bytes. bytes ≡ spelling feed) → IsLedgerOf feed counts receipts rows → Stops old new page (text_of (lines_of counts receipts rows)) written → GaveAll known now (PartIsOut written old new)
-part_is_out known now old new page feed counts receipts rows written empty good spelled l stop =
-    gave_all known now (λ bytes. bytes ≡ spelling feed) (PartIsOut written old new) spelled
-    (λ bytes is. (text, record { feed = feed; good = good; spelled = is; report = lines_are feed counts receipts rows l }, part_size old new text written at_first, part_out old new text written at_first))
-  where
-    text : List ℕ
-    text = text_of (lines_of counts receipts rows)
+module _ (feed : FeedValue) (counts : List (Option ℕ)) (receipts : List Receipt) (rows : List Row) (good : IsFeed feed) (l : IsLedgerOf feed counts receipts rows) where
+  abbrev text : List ℕ
+  text = text_of (lines_of counts receipts rows)
 
-    at_first : Stops old new blank text written
-    at_first = subst (λ (p : PageValue). Stops old new p text written) empty stop
+  is_report : (bytes : List ℕ) → bytes ≡ spelling feed → IsApplyReport bytes text
+  is_report bytes is = record { feed = feed; good = good; spelled = is; report = lines_are feed counts receipts rows l }
 
--- the whole report is out
-pub all_is_out : (old new : Device) (page after : PageValue) (feed : FeedValue) (counts : List (Option ℕ)) (receipts : List Receipt) (rows : List Row) → page ≡ blank → after.bytes ≡ [] → IsFeed feed
-    → IsLedgerOf feed counts receipts rows → Puts old new page after (text_of (lines_of counts receipts rows)) → (bytes : List ℕ) → bytes ≡ spelling feed → ReportIsOut old new bytes
-all_is_out old new page after feed counts receipts rows empty out good l put bytes spelled =
-    (text, record { feed = feed; good = good; spelled = spelled; report = lines_are feed counts receipts rows l }, all_out old new after text (subst (λ (p : PageValue). Puts old new p after text) empty put) out)
-  where
-    text : List ℕ
-    text = text_of (lines_of counts receipts rows)
+  -- the front of the report is out where the sink stopped
+  pub part_is_out : (known now old new : Device) (e : WriteFault) → GaveAll known now (λ bytes. bytes ≡ spelling feed) → StopsWriting e text old new → GaveAll known now (PartIsOut e.written old new)
+  part_is_out known now old new e spelled stop = gave_all known now (λ bytes. bytes ≡ spelling feed) (PartIsOut e.written old new) spelled (λ bytes is. (text, is_report bytes is, stop.short, stop.out))
+
+  -- the whole report is out
+  pub all_is_out : (old new : Device) → Writes text old new → (bytes : List ℕ) → bytes ≡ spelling feed → ReportIsOut old new bytes
+  all_is_out old new put bytes is = (text, is_report bytes is, put.1)

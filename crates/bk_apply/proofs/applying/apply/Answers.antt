@@ -32,9 +32,9 @@ returns-in_err-write_report-clause-fault g c =
     let p = err_from_is_err_and c.from_residual-in_err-write_report.result c.from_residual-in_err-write_report.ensures.1 in
     rw (p.1, p.2) (
       c.in_ok-feed.ensures.sound,
-      c.in_err-write_report.ensures.written.0,
-      part_is_out (g.S.Source.state c.args.source.now) (g.S.Source.state c.read.new.source) _ _ _ c.in_ok-feed.feed l.counts.items l.receipts.items l.rows.items _ c.in_ok-page.ensures c.in_ok-feed.ensures.feed.0 c.in_ok-feed.ensures.feed.1
-          (record { counts_are = counts; receipts_are = receipts; rows_are = rows }) c.in_err-write_report.ensures.written.1,
+      c.in_err-write_report.ensures.fails,
+      part_is_out c.in_ok-feed.feed l.counts.items l.receipts.items l.rows.items c.in_ok-feed.ensures.feed.0 (record { counts_are = counts; receipts_are = receipts; rows_are = rows })
+          (g.S.Source.state c.args.source.now) (g.S.Source.state c.read.new.source) _ _ _ c.in_ok-feed.ensures.feed.1 c.in_err-write_report.ensures,
     )
 
 pub returns-clause-report : goal.returns-clause-report
@@ -44,5 +44,5 @@ returns-clause-report g c =
     let receipts = c.in_ok-summary.ensures.receipts ∙ c.in_ok-ledger.ensures.receipts in
     let rows = c.in_ok-summary.ensures.rows ∙ c.in_ok-ledger.ensures.rows in
     gave_all (g.S.Source.state c.args.source.now) (g.S.Source.state c.read.new.source) (λ bytes. bytes ≡ spelling c.in_ok-feed.feed) (ReportIsOut (g.K.Sink.state c.args.sink.now) (g.K.Sink.state c.write_report.new.sink)) c.in_ok-feed.ensures.feed.1
-    (all_is_out _ _ _ _ c.in_ok-feed.feed l.counts.items l.receipts.items l.rows.items c.in_ok-page.ensures c.in_ok-write_report.ensures.empty c.in_ok-feed.ensures.feed.0
-    (record { counts_are = counts; receipts_are = receipts; rows_are = rows }) c.in_ok-write_report.ensures.written.1)
+    (all_is_out c.in_ok-feed.feed l.counts.items l.receipts.items l.rows.items c.in_ok-feed.ensures.feed.0
+    (record { counts_are = counts; receipts_are = receipts; rows_are = rows }) (g.K.Sink.state c.args.sink.now) (g.K.Sink.state c.write_report.new.sink) c.in_ok-write_report.ensures)

@@ -1,20 +1,18 @@
-use Rattle.std.proofs.Common.{ap, ◌∙◌}
-use Rattle.std.proofs.lemmas.Result.{err_from_is_err_and}
+use Rattle.std.proofs.Common.{[], ◌∷◌, ◌∙◌, refl, ap, arith}
 use Rattle.bk_digest.specs.Tree.{root_of}
+use Rattle.bk_report.specs.declared.line.Line.TheVariants as line
+use Rattle.bk_report.specs.Lines.{text_of}
 use Rattle.bk_report.specs.RunLines.{rows_lines}
-use Rattle.bk_report.proofs.LineGroups.{stops_before, written_then, ending_is, written_ok, written_err}
-use Rattle.bk_report.proofs.report.put_ledger.Goals as goal
 use Rattle.bk_report.specs.private.Ending.{ending_lines}
+use Rattle.bk_report.proofs.Putting.{groups_put, puts_as}
+use Rattle.bk_report.proofs.report.put_ledger.Goals as goal
 
-pub returns-in_err-put-clause-written : goal.returns-in_err-put-clause-written
-returns-in_err-put-clause-written g c =
-    let p = err_from_is_err_and c.from_residual.result c.from_residual.ensures.1 in
-    rw (p.1, p.2)
-    (stops_before _ _ _ (rows_lines c.args.parts.now.receipts.now c.args.parts.now.rows.now) (ending_lines c.args.parts.now.rows.now) _
-    (written_err c.put_beside-state.result.1 _ _ _ _ _ _ c.in_err-put.was c.put_beside-state.ensures.written))
+pub put_ending-requires : goal.put_ending-requires
+put_ending-requires g c = c.put_beside-state.ensures.put.ready
 
-pub returns-clause-written : goal.returns-clause-written
-returns-clause-written g c =
-    written_then c.put_ending.result _ _ _ _ _ _ (rows_lines c.args.parts.now.receipts.now c.args.parts.now.rows.now) (ending_lines c.args.parts.now.rows.now)
-    (written_ok c.put_beside-state.result.1 _ _ _ _ _ _ c.in_ok-put.was c.put_beside-state.ensures.written)
-    (ending_is c.put_ending.result _ _ _ _ c.args.parts.now.total c.put_beside-state.result.0 c.args.parts.now.rows.now c.requires.total (c.put_beside-state.ensures.state ∙ ap root_of c.requires.leaves) c.put_ending.ensures.written)
+pub returns : goal.returns
+returns g c =
+    let p = c.args.parts.now in
+    let root = c.put_beside-state.ensures.state ∙ ap root_of c.requires.leaves in
+    let ending = puts_as 192 (text_of (ending_lines p.rows.now)) c.put_ending.ensures (omega arith) (λ i. text_of (line.Money (c.requires.total i) ∷ line.State (root i) ∷ [])) in
+    puts_as _ _ (groups_put (rows_lines p.receipts.now p.rows.now) (ending_lines p.rows.now) c.put_beside-state.ensures.put ending) (omega arith) refl

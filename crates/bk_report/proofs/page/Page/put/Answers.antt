@@ -1,10 +1,11 @@
-use Rattle.std.proofs.Common.{◌++◌, ◌∷◌, []}
-use Rattle.std.proofs.lemmas.Result.{err_from_is_err_and}
+use Rattle.std.proofs.Common.{◌≤◌, ◌∙◌, ◌++◌, ◌∷◌, [], length, length-append, refl, sym, ap, arith}
 use Rattle.bk_report.specs.Lines.{line_text}
-use Rattle.bk_report.proofs.Putting.{stops_more}
+use Rattle.bk_report.specs.Pages.{PageValue}
+use Rattle.bk_report.proofs.Putting.{puts_behind, puts_then}
 use Rattle.bk_report.proofs.page.Page.put.Goals as goal
 
-pub returns-in_err-flush-clause-written : goal.returns-in_err-flush-clause-written
-returns-in_err-flush-clause-written g c =
-    let p = err_from_is_err_and c.from_residual.result c.from_residual.ensures.1 in
-    rw (p.1, p.2) (c.in_err-flush.ensures.written.0, stops_more _ _ _ [] (line_text c.args.line ++ 10 ∷ []) _ c.in_err-flush.ensures.written.1)
+pub returns : goal.returns
+returns g c =
+    let text = line_text c.args.line ++ 10 ∷ [] in
+    let size : length (line_text c.args.line ++ 10 ∷ []) ≤ 96 = omega (arith, c.put_line.ensures.len, c.self.inside.bytes.ok.0, c.put_line.new.page.ok.0, ap length c.put_line.ensures.items, length-append c.self.inside.bytes.items (line_text c.args.line ++ 10 ∷ [])) in
+    puts_then {n = 96} c.make_room.ensures.put (rw (← c.self.view_is) (puts_behind _ _ _ 96 text (λ works. c.make_room.ensures.put.ready (ap (λ (p : PageValue). p.failed) (sym c.self.view_is) ∙ works)) size refl refl c.put_line.ensures.items))
