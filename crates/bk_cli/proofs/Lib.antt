@@ -1,6 +1,5 @@
 mod LeadLemmas
 mod LineLemmas
-mod LinkLemmas
 mod ReportLemmas
 mod WordLemmas
 mod ZipLemmas

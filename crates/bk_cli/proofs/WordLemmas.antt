@@ -12,7 +12,7 @@ use Rattle.clap.specs.Words.{App, HasMatchesOf, Row, Text, one_of, subcommand_of
 use Rattle.clap.specs.declared.parser.matches.ArgMatches.{ArgMatches}
 use Rattle.clap.specs.declared.parser.matches.SubCommand.{SubCommand}
 use Rattle.clap.specs.declared.parser.matches.ArgMatches.TheViews.{out-ArgMatches, out-SubCommand}
-use Rattle.bk_cli.specs.CommandLine.{all_words, AreNamedBy, AreNotesIn, AreNotesOf, IsOn, IsOneOf, IsStrictOf, IsJobOf, IsJobAt, NamesNoJob}
+use Rattle.bk_cli.specs.CommandLine.{all_words, AreNotesIn, AreNotesOf, Asks, IsOn, IsOneOf, IsStrictOf, IsJobOf, NamesNoJob}
 use Rattle.bk_cli.specs.Commands.{command_line, word_of}
 use Rattle.bk_cli.specs.declared.verb.TheConstants.{ALL}
 use Rattle.bk_cli.specs.declared.verb.Verb.{Verb}
@@ -45,8 +45,8 @@ pub what_is_found : (m : ArgMatches) (words : List Text) (name : Text) (rows : L
 what_is_found m words name rows found named valued =
     sym found ∙ both_parts name rows (subcommand_rows_of m) (named ∙ sym (name_of_rows m)) valued
 
--- a job at these rows is the job of the words
-pub job_at_found : (found : Option (Text × List Row)) (name word : Text) (rows : List Row) (j : Job) → found ≡ Some (name, rows) → name ≡ word → IsJobAt word rows j
+-- a job that a command asks for is the job of the words
+pub job_at_found : (found : Option (Text × List Row)) (name word : Text) (rows : List Row) (j : Job) → found ≡ Some (name, rows) → name ≡ word → Asks (word, rows) (Some j)
     → IsJobOf found j
 job_at_found found name word rows j is same h =
     let is_word : found ≡ Some (word, rows) = is ∙ ap (λ (t : Text). Some (t, rows)) same in
@@ -62,16 +62,12 @@ pub strict_at_found : (found : Option (Text × List Row)) (name : Text) (rows : 
     → IsOn (one_of (codes "strict") rows) strict → IsStrictOf found strict
 strict_at_found found name rows strict is h = subst (λ (f : Option (Text × List Row)). IsStrictOf f strict) (sym is) h
 
--- and where there is none for want of a digest, the words name none
-pub no_job_at : (found : Option (Text × List Row)) (name word : Text) (rows : List Row) → found ≡ Some (name, rows) → name ≡ word → NamesNoJob (Some (word, rows))
+-- and where it asks for none, the words name none
+pub no_job_at : (found : Option (Text × List Row)) (name word : Text) (rows : List Row) → found ≡ Some (name, rows) → name ≡ word → Asks (word, rows) None
     → NamesNoJob found
 no_job_at found name word rows is same h =
     let is_word : found ≡ Some (word, rows) = is ∙ ap (λ (t : Text). Some (t, rows)) same in
     subst NamesNoJob (sym is_word) h
-
--- the usual number of workers by another name
-pub named_by_usual : (n usual : ℕ) (t : Option Text) (count : ℕ) → n ≡ usual → AreNamedBy n t count → AreNamedBy usual t count
-named_by_usual n usual t count e h = subst (λ (k : ℕ). AreNamedBy k t count) e h
 
 -- the command line is one of which the matches are defined
 pub named_by_words : (a : App) (words : List Text) (m : ArgMatches) → a ≡ command_line → HasMatchesOf a words m

@@ -1,5 +1,6 @@
 -- The command line, and the job that its words ask for.
-use Rattle.std.specs.Prelude.{◌≡◌, ◌≤◌, ◌<◌, ◌⊎◌, ◌^◌, ℕ, Bool, List, [], ◌∷◌, Option, Some, None, true, false, codes, map, option_map, string_bytes, unwrap_or}
+use Rattle.std.specs.Prelude.{◌≡◌, ◌≤◌, ◌<◌, ◌⊎◌, ◌^◌, ◌&&◌, ◌||◌, not, ℕ, Bool, List, [], ◌∷◌, Option, Some, None, String, true, false, codes, if◌then◌else◌, map, option_map, string_bytes, unwrap_or}
+use Rattle.std.specs.Global.{Global}
 use Rattle.std.specs.Str.Parse.{IsNumeral, digits_value, without_leading_plus}
 use Rattle.hex.specs.Hex.{encode_lower}
 use Rattle.clap.specs.Values.{kind_of}
@@ -7,14 +8,14 @@ use Rattle.clap.specs.declared.error.Error.{Error}
 use Rattle.clap.specs.declared.error.kind.ErrorKind.TheVariants as kind
 use Rattle.clap.specs.Words.{Row, Text, first_of, one_of}
 use Rattle.bk_digest.specs.Digest.{IsHexDigest}
-use Rattle.bk_results.specs.declared.query.Query.{Query}
 use Rattle.bk_results.specs.declared.query.Query.TheVariants as query
 use Rattle.bk_cli.specs.Files.{names_input, reads_input_twice}
 use Rattle.bk_cli.specs.Links.{AreLinksIn, LacksLinks}
+use Rattle.bk_cli.specs.Windows.{WindowValue}
+use Rattle.bk_cli.specs.declared.args.Args.{Args}
 use Rattle.bk_cli.specs.declared.job.Job.{Job}
 use Rattle.bk_cli.specs.declared.job.Job.TheVariants as job
 use Rattle.bk_cli.specs.declared.notes.Notes.{Notes}
-use Rattle.bk_cli.specs.declared.view.Diagnosis.{Diagnosis}
 use Rattle.bk_cli.specs.declared.view.Diagnosis.TheVariants as sought
 use Rattle.bk_cli.specs.declared.view.Table.{Table}
 use Rattle.bk_cli.specs.declared.view.Table.TheVariants as table
@@ -25,15 +26,7 @@ use Rattle.bk_cli.specs.declared.verb.Verb.{Verb}
 use Rattle.bk_cli.specs.declared.verb.Verb.TheVariants as verb
 use Rattle.bk_cli.specs.Commands.{word_of}
 
--- ---- the job
-
--- the file is the value of FILE
-abbrev pub IsFileIn : List Row → Option Text → Type 0
-IsFileIn rows file = first_of (codes "FILE") rows ≡ file
-
--- the text is the value of an argument that is required
-abbrev pub IsTextIn : List Row → Text → Text → Type 0
-IsTextIn rows name text = text ≡ unwrap_or (first_of name rows) []
+-- ---- the values of arguments
 
 -- an option without a value is given: its value is true
 abbrev pub IsOn : Option Text → Bool → Type 0
@@ -48,10 +41,6 @@ IsChosenBy most usual (Some text) n =
     → digits_value 10 (without_leading_plus text) ≤ most
     → n ≡ digits_value 10 (without_leading_plus text)
 
--- the number of workers is the value of `--workers`: this number where there is none
-abbrev pub AreNamedBy : ℕ → Option Text → ℕ → Type 0
-AreNamedBy usual text count = IsChosenBy 64 usual text count
-
 -- a number below a limit is the value of an argument that is required
 abbrev pub IsNumberBy : ℕ → Option Text → ℕ → Type 0
 IsNumberBy limit None n = n ≡ 0
@@ -59,138 +48,121 @@ IsNumberBy limit (Some text) n =
     IsNumeral 10 (without_leading_plus text) → digits_value 10 (without_leading_plus text) < limit
     → n ≡ digits_value 10 (without_leading_plus text)
 
--- a number below a limit is the value of an option: none where it is left out
-abbrev pub IsGivenBy : ℕ → Option Text → Option ℕ → Type 0
-IsGivenBy limit None given = given ≡ None
-IsGivenBy limit (Some text) given =
-    IsNumeral 10 (without_leading_plus text) → digits_value 10 (without_leading_plus text) < limit
+-- a number from the first to below a limit is the value of an option: none where it is left out
+abbrev pub IsGivenBy : ℕ → ℕ → Option Text → Option ℕ → Type 0
+IsGivenBy least limit None given = given ≡ None
+IsGivenBy least limit (Some text) given =
+    IsNumeral 10 (without_leading_plus text) → least ≤ digits_value 10 (without_leading_plus text)
+    → digits_value 10 (without_leading_plus text) < limit
     → given ≡ Some (digits_value 10 (without_leading_plus text))
 
--- the query is that of a command, with the value of its argument
-abbrev pub IsQueryAt : Text → List Row → Query → Type 0
-IsQueryAt word rows query.Order = word ≡ word_of verb.Order
-IsQueryAt word rows (query.Account id) =
-    (word ≡ word_of verb.Account) × IsNumberBy (2 ^ 64) (one_of (codes "ID") rows) id
-IsQueryAt word rows (query.Receipt place) =
-    (word ≡ word_of verb.Receipt) × IsNumberBy (2 ^ 32) (one_of (codes "PLACE") rows) place
-IsQueryAt word rows (query.Proof id) =
-    (word ≡ word_of verb.Prove) × IsNumberBy (2 ^ 64) (one_of (codes "ID") rows) id
-IsQueryAt word rows (query.State root) =
-    (word ≡ word_of verb.CheckState) × IsTextIn rows (codes "ROOT") (encode_lower root)
-IsQueryAt word rows query.Anchors = word ≡ word_of verb.Anchors
-IsQueryAt word rows (query.Statement id) =
-    (word ≡ word_of verb.Statement) × IsNumberBy (2 ^ 64) (one_of (codes "ID") rows) id
+-- the text is the value of an argument that is required
+abbrev pub IsTextIn : Option Text → Text → Type 0
+IsTextIn value text = text ≡ unwrap_or value []
 
--- how many workers the job of a query names: as many as `--workers` says for that of a digest and for a statement, and one
--- for the others, whose number is not asked for: they execute on all processors
-abbrev pub AreWorkersFor : List Row → Query → ℕ → Type 0
-AreWorkersFor rows query.Order count = count ≡ 1
-AreWorkersFor rows (query.Account id) count = count ≡ 1
-AreWorkersFor rows (query.Receipt place) count = count ≡ 1
-AreWorkersFor rows (query.Proof id) count = count ≡ 1
-AreWorkersFor rows (query.State root) count = AreNamedBy 1 (one_of (codes "workers") rows) count
-AreWorkersFor rows query.Anchors count = count ≡ 1
-AreWorkersFor rows (query.Statement id) count = AreNamedBy 1 (one_of (codes "workers") rows) count
+-- a digest is the value of ROOT: none where it is not 64 hexadecimal digits in lower case
+abbrev pub IsDigestIn : Option Text → Option (List ℕ) → Type 0
+IsDigestIn value None = IsHexDigest (unwrap_or value []) → ⊥
+IsDigestIn value (Some digest) = IsTextIn value (encode_lower digest)
 
--- a feed is followed where `--follow` is given, and waited for where `--wait` is
-abbrev pub IsFollowed : List Row → Bool → Type 0
-IsFollowed rows on = IsOn (one_of (codes "follow") rows) on
+-- what is drawn is the values of `--from`, `--rounds` and `--links`: none where the last is none of its words
+abbrev pub IsWindowIn : (Text → Option Text) → (Text → Option Text) → Option WindowValue → Type 0
+IsWindowIn one first None = LacksLinks (first (codes "links"))
+IsWindowIn one first (Some w) =
+    IsChosenBy 1000000 1 (one (codes "from")) w.from × IsChosenBy 1000 40 (one (codes "rounds")) w.rounds
+    × AreLinksIn (first (codes "links")) w.links
 
-abbrev pub IsWaited : List Row → Bool → Type 0
-IsWaited rows on = IsOn (one_of (codes "wait") rows) on
+-- these are the values of the arguments: as one text by its name, as the parser reads it, and as it was first
+pub record AreArgs (one first : Text → Option Text) (a : Args) : Type 0 where
+  pub workers : IsGivenBy 1 65 (one (codes "workers")) a.workers
+  pub id : IsNumberBy (2 ^ 64) (one (codes "ID")) a.id
+  pub place : IsNumberBy (2 ^ 32) (one (codes "PLACE")) a.place
+  pub account : IsGivenBy 0 (2 ^ 64) (one (codes "account")) a.account
+  pub window : IsWindowIn one first a.window
+  pub follow : IsOn (one (codes "follow")) a.follow
+  pub wait : IsOn (one (codes "wait")) a.wait
+  pub digest : IsDigestIn (first (codes "ROOT")) a.digest
+  pub file : first (codes "FILE") ≡ option_map string_bytes a.file
+  pub accounts : first (codes "accounts") ≡ option_map string_bytes a.accounts
+  pub root : IsTextIn (first (codes "ROOT")) (string_bytes a.root)
+  pub report : IsTextIn (first (codes "REPORT")) (string_bytes a.report)
+  pub feed : IsTextIn (first (codes "FEED")) (string_bytes a.feed)
+  pub events : IsTextIn (first (codes "EVENTS")) (string_bytes a.events)
+  pub feed1 : IsTextIn (first (codes "FEED1")) (string_bytes a.feed1)
+  pub feed2 : IsTextIn (first (codes "FEED2")) (string_bytes a.feed2)
 
--- a table is written at the end of its feed
-abbrev pub IsAtEnd : List Row → Type 0
-IsAtEnd rows = IsFollowed rows false × IsWaited rows false
+-- ---- the job
 
--- what is shown is what a command shows; of a table all rows, where no list of accounts is named, and at the end of the feed
-abbrev pub IsViewAt : Text → List Row → View → Type 0
-IsViewAt word rows view.Transactions =
-    (word ≡ word_of verb.Transactions) × (first_of (codes "accounts") rows ≡ None) × IsAtEnd rows
-IsViewAt word rows view.Postings =
-    (word ≡ word_of verb.Postings) × (first_of (codes "accounts") rows ≡ None) × IsAtEnd rows
-IsViewAt word rows view.Batches = word ≡ word_of verb.Batches
-IsViewAt word rows view.Link = word ≡ word_of verb.Link
+-- how many threads execute
+abbrev pub threads : Args → ℕ
+threads a = unwrap_or a.workers 1
 
--- as many workers as `--workers` names execute for it; the batches need none
-abbrev pub AreWorkersToShow : List Row → View → ℕ → Type 0
-AreWorkersToShow rows view.Batches count = count ≡ 1
-AreWorkersToShow rows other count = AreNamedBy 1 (one_of (codes "workers") rows) count
+-- more would be waited for where no file can grow: without `--follow`, or where standard input is read
+abbrev pub waits_in_vain : Args → Bool
+waits_in_vain a = a.wait && (not a.follow || names_input (option_map string_bytes a.file))
 
 -- all rows of a table
 abbrev pub view_of : Table → View
 view_of table.Transactions = view.Transactions
 view_of table.Postings = view.Postings
 
--- the command of a table
-abbrev pub verb_of : Table → Verb
-verb_of table.Transactions = verb.Transactions
-verb_of table.Postings = verb.Postings
+-- the job of a table at the end of its feed: all rows, or those of a list of accounts
+abbrev pub rows_job : Table → ℕ → Option (String Global) → Option (String Global) → Job
+rows_job shown workers None file = job.Show workers (view_of shown) file
+rows_job shown workers (Some accounts) file = job.Pick workers shown accounts file
 
--- the command that looks for what is wrong
-abbrev pub verb_for : Diagnosis → Verb
-verb_for sought.Waiting = verb.Waiting
-verb_for sought.Missing = verb.Missing
-verb_for sought.Evidence = verb.Evidence
+-- the job of a table; there is none where it would wait in vain
+abbrev pub table_job : Table → Args → Option Job
+table_job shown a =
+    if waits_in_vain a then None
+    else if a.follow then Some (job.Follow (threads a) shown a.accounts a.wait a.file)
+    else Some (rows_job shown (threads a) a.accounts a.file)
 
--- the job is that of a command, with the values of its arguments
-abbrev pub IsJobAt : Text → List Row → Job → Type 0
-IsJobAt word rows (job.Run workers file) =
-    (word ≡ word_of verb.Run) × AreNamedBy 1 (one_of (codes "workers") rows) workers
-    × IsFileIn rows (option_map string_bytes file)
-IsJobAt word rows (job.Make file) =
-    (word ≡ word_of verb.Make) × IsFileIn rows (option_map string_bytes file)
-IsJobAt word rows (job.CheckProof root account file) =
-    (word ≡ word_of verb.CheckProof) × IsTextIn rows (codes "ROOT") (string_bytes root)
-    × IsGivenBy (2 ^ 64) (one_of (codes "account") rows) account
-    × IsFileIn rows (option_map string_bytes file)
-IsJobAt word rows (job.Ask workers asked file) =
-    IsQueryAt word rows asked × AreWorkersFor rows asked workers
-    × IsFileIn rows (option_map string_bytes file)
-IsJobAt word rows (job.CheckReport workers report file) =
-    (word ≡ word_of verb.CheckReport) × AreNamedBy 1 (one_of (codes "workers") rows) workers
-    × IsTextIn rows (codes "REPORT") (string_bytes report)
-    × IsFileIn rows (option_map string_bytes file)
-IsJobAt word rows (job.Frames file) =
-    (word ≡ word_of verb.Frames) × IsFileIn rows (option_map string_bytes file)
-IsJobAt word rows (job.Summary workers file) =
-    (word ≡ word_of verb.Summary) × AreNamedBy 1 (one_of (codes "workers") rows) workers
-    × IsFileIn rows (option_map string_bytes file)
-IsJobAt word rows (job.Dag window file) =
-    (word ≡ word_of verb.Dag) × IsChosenBy 1000000 1 (one_of (codes "from") rows) window.from
-    × IsChosenBy 1000 40 (one_of (codes "rounds") rows) window.rounds
-    × AreLinksIn rows window.links
-    × IsFileIn rows (option_map string_bytes file)
-IsJobAt word rows (job.Apply file) =
-    (word ≡ word_of verb.Apply) × IsFileIn rows (option_map string_bytes file)
-IsJobAt word rows (job.Schedule workers feed events) =
-    (word ≡ word_of verb.Schedule) × AreNamedBy 2 (one_of (codes "workers") rows) workers
-    × IsTextIn rows (codes "FEED") (string_bytes feed)
-    × IsTextIn rows (codes "EVENTS") (string_bytes events)
-IsJobAt word rows (job.Compare first second) =
-    (word ≡ word_of verb.Compare) × IsTextIn rows (codes "FEED1") (string_bytes first)
-    × IsTextIn rows (codes "FEED2") (string_bytes second)
-IsJobAt word rows (job.Show workers shown file) =
-    IsViewAt word rows shown × AreWorkersToShow rows shown workers
-    × IsFileIn rows (option_map string_bytes file)
-IsJobAt word rows (job.Pick workers shown accounts file) =
-    (word ≡ word_of (verb_of shown)) × AreNamedBy 1 (one_of (codes "workers") rows) workers
-    × (first_of (codes "accounts") rows ≡ Some (string_bytes accounts)) × IsAtEnd rows
-    × IsFileIn rows (option_map string_bytes file)
-IsJobAt word rows (job.Follow workers shown accounts wait file) =
-    (word ≡ word_of (verb_of shown)) × AreNamedBy 1 (one_of (codes "workers") rows) workers
-    × (first_of (codes "accounts") rows ≡ option_map string_bytes accounts) × IsFollowed rows true × IsWaited rows wait
-    × (wait ≡ true → names_input (option_map string_bytes file) ≡ false)
-    × IsFileIn rows (option_map string_bytes file)
-IsJobAt word rows (job.Diagnose d file) =
-    (word ≡ word_of (verb_for d)) × IsFileIn rows (option_map string_bytes file)
-IsJobAt word rows (job.CheckChain file) =
-    (word ≡ word_of verb.CheckChain) × IsFileIn rows (option_map string_bytes file)
+-- the job of a command with these values; there is none where a ROOT has to be a digest and is not, where the value of `--links` is
+-- none of its words, and where a table would wait in vain. For `order`, `account`, `receipt`, `prove` and `anchors` no number of
+-- threads is asked for: they execute on all processors
+abbrev pub job_of : Verb → Args → Option Job
+job_of verb.Run a = Some (job.Run (threads a) a.file)
+job_of verb.Make a = Some (job.Make a.file)
+job_of verb.Order a = Some (job.Ask 1 query.Order a.file)
+job_of verb.Account a = Some (job.Ask 1 (query.Account a.id) a.file)
+job_of verb.Receipt a = Some (job.Ask 1 (query.Receipt a.place) a.file)
+job_of verb.Prove a = Some (job.Ask 1 (query.Proof a.id) a.file)
+job_of verb.Frames a = Some (job.Frames a.file)
+job_of verb.Summary a = Some (job.Summary (threads a) a.file)
+job_of verb.Anchors a = Some (job.Ask 1 query.Anchors a.file)
+job_of verb.Dag a = option_map (λ window. job.Dag window a.file) a.window
+job_of verb.Statement a = Some (job.Ask (threads a) (query.Statement a.id) a.file)
+job_of verb.Transactions a = table_job table.Transactions a
+job_of verb.Postings a = table_job table.Postings a
+job_of verb.Batches a = Some (job.Show 1 view.Batches a.file)
+job_of verb.Waiting a = Some (job.Diagnose sought.Waiting a.file)
+job_of verb.Missing a = Some (job.Diagnose sought.Missing a.file)
+job_of verb.Evidence a = Some (job.Diagnose sought.Evidence a.file)
+job_of verb.CheckProof a = Some (job.CheckProof a.root a.account a.file)
+job_of verb.CheckState a = option_map (λ root. job.Ask (threads a) (query.State root) a.file) a.digest
+job_of verb.CheckReport a = Some (job.CheckReport (threads a) a.report a.file)
+job_of verb.Apply a = Some (job.Apply a.file)
+job_of verb.Schedule a = Some (job.Schedule (unwrap_or a.workers 2) a.feed a.events)
+job_of verb.Compare a = Some (job.Compare a.feed1 a.feed2)
+job_of verb.Link a = Some (job.Show (threads a) view.Link a.file)
+job_of verb.CheckChain a = Some (job.CheckChain a.file)
+
+-- the command of this word, with the values in these rows, asks for this job, or for none
+abbrev pub Asks : Text × List Row → Option Job → Type 0
+Asks found made =
+    (v : Verb) × (a : Args) × (found.0 ≡ word_of v)
+    × AreArgs (λ name. one_of name found.1) (λ name. first_of name found.1) a × (made ≡ job_of v a)
 
 -- the job is that of the command that was found in the words
 abbrev pub IsJobOf : Option (Text × List Row) → Job → Type 0
 IsJobOf None j = ⊥
-IsJobOf (Some found) j = IsJobAt found.0 found.1 j
+IsJobOf (Some found) j = Asks found (Some j)
+
+-- the command that was found in the words asks for no job
+abbrev pub NamesNoJob : Option (Text × List Row) → Type 0
+NamesNoJob None = ⊥
+NamesNoJob (Some found) = Asks found None
 
 -- ---- what else is told
 
@@ -208,25 +180,6 @@ AreNotesOf (Some found) notes = AreNotesIn found.1 notes
 abbrev pub IsStrictOf : Option (Text × List Row) → Bool → Type 0
 IsStrictOf None strict = ⊥
 IsStrictOf (Some found) strict = IsOn (one_of (codes "strict") found.1) strict
-
--- ---- words that name no job
-
--- the value of ROOT is not a digest
-abbrev pub LacksDigest : List Row → Type 0
-LacksDigest rows = IsHexDigest (unwrap_or (first_of (codes "ROOT") rows) []) → ⊥
-
--- `--wait` is given where no file can grow: without `--follow`, or where standard input is read
-abbrev pub WaitsInVain : List Row → Type 0
-WaitsInVain rows = IsWaited rows true × (IsFollowed rows false ⊎ (names_input (first_of (codes "FILE") rows) ≡ true))
-
--- the command that was found in the words is `check-state`, and its ROOT is not a digest; or it is `dag`, and the
--- value of `--links` is none of its words; or it is that of a table, and waits in vain
-abbrev pub NamesNoJob : Option (Text × List Row) → Type 0
-NamesNoJob None = ⊥
-NamesNoJob (Some found) =
-    (found.0 ≡ word_of verb.CheckState) × LacksDigest found.1
-    ⊎ (found.0 ≡ word_of verb.Dag) × LacksLinks found.1
-    ⊎ ((shown : Table) × (found.0 ≡ word_of (verb_of shown)) × WaitsInVain found.1)
 
 -- ---- standard input that is named twice
 

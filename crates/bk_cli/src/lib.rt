@@ -6,6 +6,7 @@
 #![tactic(auto)]
 
 mod about;
+mod args;
 mod commands;
 mod diagnosis_help;
 mod exit;
@@ -29,7 +30,6 @@ mod strict;
 mod table_help;
 mod telling;
 mod unopened;
-mod values;
 mod verb;
 mod view;
 mod window;

@@ -1,7 +1,7 @@
 //! Which links a picture shows.
 
-ghost use Rattle.std.specs.Prelude.{◌≡◌, MatchOption};
-ghost use Rattle.clap.specs.Words.{found_of, rows_of};
+ghost use Rattle.std.specs.Prelude.{◌≡◌, MatchOption, codes};
+ghost use Rattle.clap.specs.Words.{first_value, found_of};
 ghost use Rattle.bk_cli.specs.declared.links.Links.{Links};
 ghost use Rattle.bk_cli.specs.Links.{AreLinksIn, LacksLinks, links_word};
 
@@ -37,8 +37,8 @@ fn links_of(word: &str) -> Option<Links>
 
 /// The links that `--links` names, none where it is left out. There is no answer where its value is none of the words.
 pub(crate) fn links_in(found: &ArgMatches<'_>) -> Option<Option<Links>>
-    ensures { MatchOption result (LacksLinks (rows_of (found_of found.now)))
-        (AreLinksIn (rows_of (found_of found.now))) }
+    ensures { MatchOption result (LacksLinks (first_value (found_of found.now) (codes "links")))
+        (AreLinksIn (first_value (found_of found.now) (codes "links"))) }
 {
     match found.get_str("links") {
         None => Some(None),

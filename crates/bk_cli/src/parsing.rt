@@ -10,7 +10,7 @@ ghost use Rattle.bk_cli.specs.Words.{settled};
 
 use crate::commands::{command, command_of};
 use crate::job::{Job, sole};
-use crate::making::job_of;
+use crate::making::job_in;
 use crate::notes::{Notes, strict_in};
 use crate::verb::Verb;
 use crate::words::settle;
@@ -88,7 +88,7 @@ fn parse_settled<'a, S: AsStr>(alloc: Global, words: &'a [S]) -> Result<Line, Er
         unreachable!()
     };
     let verb = Verb::of(name);
-    let Some(job) = job_of(alloc, verb, found)? else {
+    let Some(job) = job_in(alloc, verb, found)? else {
         return Err(no_job(alloc, verb)?);
     };
     let Some(job) = sole(job) else {

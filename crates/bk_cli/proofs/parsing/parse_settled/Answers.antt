@@ -1,9 +1,8 @@
 -- The command that was found is the one that the words name.
-use Rattle.std.proofs.Common.{map, inl, inr, subst, sym, ◌∙◌, Option, Some}
-use Rattle.std.specs.Prelude.{MatchOption}
+use Rattle.std.proofs.Common.{map, inl, inr, subst, sym, ◌∙◌}
 use Rattle.std.proofs.lemmas.Result.{err_from_is_err_and}
 use Rattle.clap.specs.Words.{rows_of, found_of, subcommand_of}
-use Rattle.bk_cli.specs.CommandLine.{IsJobAt, IsJobOf, NamesNoJob}
+use Rattle.bk_cli.specs.CommandLine.{Asks, IsJobOf}
 use Rattle.bk_cli.specs.Commands.{command_line, word_of}
 use Rattle.bk_cli.specs.declared.job.Job.{Job}
 use Rattle.bk_cli.proofs.WordLemmas.{what_is_found, job_at_found, notes_at_found, strict_at_found, no_job_at, one_of_all, are_text, is_sole, is_twice}
@@ -29,7 +28,7 @@ returns-clause-job g c =
     let rows = rows_of (found_of c.in-Some.found.now) in
     let same = (is_sole c.in-Some-2.job c.in-Some-sole.job (sym c.sole.ensures ∙ c.in-Some-sole.is)).0 in
     subst (λ (j : Job). IsJobOf (subcommand_of command_line (map g.S.AsStr.text c.args.words.now)) j) same (
-    let it : IsJobAt (word_of c.of-verb.result) rows c.in-Some-2.job = subst (λ (o : Option Job). MatchOption o (NamesNoJob (Some (word_of c.of-verb.result, rows))) (IsJobAt (word_of c.of-verb.result) rows)) c.in-Some-2.is c.in_ok-job.ensures in
+    let it = subst (Asks (word_of c.of-verb.result, rows)) c.in-Some-2.is c.in_ok-job.ensures in
     job_at_found (subcommand_of command_line (map g.S.AsStr.text c.args.words.now)) c.in-Some.name.now (word_of c.of-verb.result) rows c.in-Some-2.job
     (what_is_found c.in_ok-matches.matches (map g.S.AsStr.text c.args.words.now) _ _ c.in_ok-matches.ensures.found c.in-Some.ensures.name c.in-Some.ensures.rows) c.of-verb.ensures it)
 
@@ -49,7 +48,7 @@ returns-clause-whole g c = c.in_ok-matches.ensures.kinds
 pub returns-in_default-2-clause-kinds : goal.returns-in_default-2-clause-kinds
 returns-in_default-2-clause-kinds g c =
     let rows = rows_of (found_of c.in-Some.found.now) in
-    let none : NamesNoJob (Some (word_of c.of-verb.result, rows)) = subst (λ (o : Option Job). MatchOption o (NamesNoJob (Some (word_of c.of-verb.result, rows))) (IsJobAt (word_of c.of-verb.result) rows)) c.in_default-2.is c.in_ok-job.ensures in
+    let none = subst (Asks (word_of c.of-verb.result, rows)) c.in_default-2.is c.in_ok-job.ensures in
     inr (
       c.in_ok-no_job.ensures,
       inl (no_job_at (subcommand_of command_line (map g.S.AsStr.text c.args.words.now)) c.in-Some.name.now (word_of c.of-verb.result) rows
@@ -59,7 +58,7 @@ returns-in_default-2-clause-kinds g c =
 pub returns-in_default-2-clause-error : goal.returns-in_default-2-clause-error
 returns-in_default-2-clause-error g c = λ t.
     let rows = rows_of (found_of c.in-Some.found.now) in
-    let none : NamesNoJob (Some (word_of c.of-verb.result, rows)) = subst (λ (o : Option Job). MatchOption o (NamesNoJob (Some (word_of c.of-verb.result, rows))) (IsJobAt (word_of c.of-verb.result) rows)) c.in_default-2.is c.in_ok-job.ensures in
+    let none = subst (Asks (word_of c.of-verb.result, rows)) c.in_default-2.is c.in_ok-job.ensures in
     inr (
       c.in_ok-no_job.ensures,
       inl (no_job_at (subcommand_of command_line (map g.S.AsStr.text c.args.words.now)) c.in-Some.name.now (word_of c.of-verb.result) rows
@@ -72,7 +71,7 @@ returns-clause-once g c = (is_sole c.in-Some-2.job c.in-Some-sole.job (sym c.sol
 pub returns-in_default-sole-clause-kinds : goal.returns-in_default-sole-clause-kinds
 returns-in_default-sole-clause-kinds g c =
     let rows = rows_of (found_of c.in-Some.found.now) in
-    let it : IsJobAt (word_of c.of-verb.result) rows c.in-Some-2.job = subst (λ (o : Option Job). MatchOption o (NamesNoJob (Some (word_of c.of-verb.result, rows))) (IsJobAt (word_of c.of-verb.result) rows)) c.in-Some-2.is c.in_ok-job.ensures in
+    let it = subst (Asks (word_of c.of-verb.result, rows)) c.in-Some-2.is c.in_ok-job.ensures in
     inr (
       c.in_ok-input_twice.ensures,
       inr (
@@ -86,7 +85,7 @@ returns-in_default-sole-clause-kinds g c =
 pub returns-in_default-sole-clause-error : goal.returns-in_default-sole-clause-error
 returns-in_default-sole-clause-error g c = λ t.
     let rows = rows_of (found_of c.in-Some.found.now) in
-    let it : IsJobAt (word_of c.of-verb.result) rows c.in-Some-2.job = subst (λ (o : Option Job). MatchOption o (NamesNoJob (Some (word_of c.of-verb.result, rows))) (IsJobAt (word_of c.of-verb.result) rows)) c.in-Some-2.is c.in_ok-job.ensures in
+    let it = subst (Asks (word_of c.of-verb.result, rows)) c.in-Some-2.is c.in_ok-job.ensures in
     inr (
       c.in_ok-input_twice.ensures,
       inr (
