@@ -1,9 +1,7 @@
-"""Reads the command line of `bkreplay` from its definition in crates/bk_cli/src: commands.rt, shaped.rt, help.rt,
-more_help.rt, table_help.rt, diagnosis_help.rt and verb.rt.
+"""Reads the command line of `bkreplay` from its definition in crates/bk_cli/src: the commands with their words and their
+arguments in verb.rt, the arguments in parts.rt, the program in shaped.rt, and the files of help.
 
-The functions of commands.rt are evaluated as they are written: `let` statements, calls, and the methods of Body.member
-and in METHODS.
-Whatever else occurs there ends the script with a message.
+Each is a match whose arms have one form. Whatever else occurs there ends the script with a message.
 """
 import os
 import re
@@ -13,15 +11,6 @@ ROOT = os.path.dirname(os.path.dirname(os.path.dirname(os.path.realpath(__file__
 SOURCE = "crates/bk_cli/src"
 # The files of help.
 MODULES = ("help", "more_help", "table_help", "diagnosis_help")
-# The methods of a value that is built, and of those the ones that can be called more than once.
-METHODS = {
-    "Arg": {"action", "help", "long", "required", "value_name", "value_parser"},
-    "Command": {"about", "after_help", "arg", "disable_help_subcommand", "subcommand", "subcommand_required",
-                "version"},
-    "Parser": {"range"},
-}
-REPEATED = ("arg", "subcommand")
-TOKEN = re.compile(r'"(?:[^"\\]|\\.)*"|[A-Za-z_]\w*!?(?:::\w+)*|\d[\d_]*|\.\.=|\S')
 
 
 def fail(why):
@@ -60,160 +49,67 @@ def read_texts():
     return {name: text for module in MODULES for name, text in texts_of(module).items()}
 
 
-class Built(dict):
-    """An argument, a command or a parser of numbers: what its methods were given, by the name of the method."""
+class Named(dict):
+    """An argument or a command: what is known of it, by the names of the builder's methods."""
 
-    def __init__(self, kind, name):
-        super().__init__(arg=[], subcommand=[])
-        self.kind, self.name = kind, name
-
-    def set(self, method, value):
-        if method not in METHODS[self.kind] or (method in self and method not in REPEATED):
-            fail(f"{SOURCE}/commands.rt: .{method} of {self.kind} {self.name} is not understood")
-        if method in REPEATED:
-            self[method].append(value)
-        else:
-            self[method] = value
-        return self
+    def __init__(self, name, **known):
+        super().__init__(known)
+        self.name = name
 
 
-def shaped(name, text):
-    """What `Shaped::new` makes: a command with its help."""
-    return Built("Command", name).set("about", text["about"]).set("after_help", text["after"])
+def arms(file, function, value):
+    """What a function that is one match gives for each variant: the groups of this pattern. `_` is every other variant."""
+    found = re.search(rf"\bfn {function}\b.*?\{{\n +match self \{{\n(.*?)\n        \}}\n    \}}",
+                      read(f"{SOURCE}/{file}"), re.DOTALL)
+    if not found:
+        fail(f"{SOURCE}/{file}: the function {function} is not understood")
+    body = re.sub(r"([(\[]) | ?,? ([)\]])", r"\1\2", " ".join(found[1].split()))
+    pattern = rf"((?:\w+::\w+ \| )*(?:\w+::\w+|_)) => {value}, "
+    rest = re.sub(pattern, "", body + " ").strip()
+    if rest:
+        fail(f"{SOURCE}/{file}: in {function}: {rest} is not understood")
+    return {name.split("::")[-1]: groups for names, *groups in re.findall(pattern, body + " ")
+            for name in names.split(" | ")}
 
 
-def plain(made, name, text):
-    """What `Plain::valued` and `Plain::flag` make: an argument that takes a value, and an option that takes none."""
-    arg = Built("Arg", name).set("help", text)
-    if made == "Plain::valued":
-        return arg.set("action", "ArgAction::Set")
-    return arg.set("long", name).set("action", "ArgAction::SetTrue")
+def text_of(texts, name):
+    return texts[name] if name in texts else fail(f"{SOURCE}: the constant {name} is not there")
 
 
-class Body:
-    """The body of a function, which is evaluated with the given variables."""
-
-    def __init__(self, source, name, values):
-        self.source, self.name = source, name
-        if name not in source.functions:
-            fail(f"{SOURCE}/commands.rt: {name} is not understood")
-        parameters, body = source.functions[name]
-        self.variables = dict(zip(parameters, values))
-        self.tokens = TOKEN.findall(body)
-
-    def next(self, wanted=None):
-        token = self.tokens.pop(0) if self.tokens else "its end"
-        if wanted not in (None, token):
-            fail(f"{SOURCE}/commands.rt: in {self.name}: {token} where {wanted} has to be")
-        return token
-
-    def peek(self):
-        return self.tokens[0] if self.tokens else None
-
-    def result(self):
-        while self.peek() == "let":
-            self.next()
-            name = self.next()
-            self.next("=")
-            self.variables[name] = self.value()
-            self.next(";")
-        found = self.value()
-        if self.tokens:
-            self.refuse(self.tokens[0])
-        return found
-
-    def values(self):
-        """Arguments in parentheses."""
-        found = []
-        self.next("(")
-        while self.peek() != ")":
-            found.append(self.value())
-            if self.peek() == ",":
-                self.next()
-        self.next(")")
-        return found
-
-    def value(self):
-        found = self.first()
-        while self.peek() in (".", "?", "..="):
-            mark = self.next()
-            if mark == "..=":
-                found = (found, self.value())
-            elif mark == ".":
-                found = self.member(found, self.next())
-        return found
-
-    def member(self, found, name):
-        """A value after one of its methods, or a field of it."""
-        if self.peek() == "(" and isinstance(found, Built):
-            values = self.values()
-            if name == "into_command" and not values:
-                return found
-            if name == "required" and not values:
-                return found.set(name, "true")
-            if name == "option" and len(values) == 2:
-                return found.set("long", values[0]).set("value_name", values[1])
-            if name == "read_by" and len(values) == 1:
-                return found.set("value_parser", values[0])
-            if len(values) == 1:
-                return found.set(name, values[0])
-        elif isinstance(found, dict) and name in found:
-            return found[name]
-        self.refuse(f".{name}")
-
-    def refuse(self, token):
-        fail(f"{SOURCE}/commands.rt: in {self.name}: {token} is not understood")
-
-    def first(self):
-        """A value up to its first method."""
-        token = self.next()
-        if token.startswith('"'):
-            return unquoted(token[1:-1])
-        if token[0].isdigit():
-            return int(token)
-        if token in self.variables:
-            return self.variables[token]
-        if token.split("::")[0] in MODULES:
-            if token not in self.source.texts:
-                fail(f"{SOURCE}: the constant {token} is not there")
-            return self.source.texts[token]
-        if token == "value_parser!":
-            self.next("(")
-            found = Built("Parser", self.next())
-            self.next(")")
-            return found
-        if token in ("Plain::valued", "Plain::flag"):
-            return plain(token, *self.values()[1:])
-        if token == "Shaped::new":
-            return shaped(*self.values()[1:])
-        if token == "Shaped::program":
-            self.values()
-            return self.source.program()
-        if token == "Ok":
-            return self.values()[0]
-        if token not in self.source.functions:
-            self.refuse(token)
-        return Body(self.source, token, self.values()).result()
+def argument(texts, kind, words, help_name, most, number):
+    """An argument, as an arm of parts.rt makes it."""
+    name, *letter = re.findall(r'"(.*?)"', words)
+    arg = Named(name, help=text_of(texts, help_name), action="ArgAction::Set")
+    if kind == "flag":
+        arg |= {"long": name, "action": "ArgAction::SetTrue"}
+    elif kind == "option" and letter:
+        arg |= {"long": name, "value_name": letter[0]}
+    elif kind == "required":
+        arg["required"] = "true"
+    elif kind != "valued":
+        fail(f"{SOURCE}/parts.rt: Plain::{kind} of {name} is not understood")
+    if most:
+        arg["value_parser"] = {"range": (1, int(most))}
+    elif number:
+        arg["value_parser"] = {"type": number}
+    return arg
 
 
-class Source:
-    """The functions of commands.rt, each with its parameters and its body, and the constants of the files of help."""
+def parts_by_name(texts):
+    """The arguments, by the name of each variant."""
+    form = r'Plain::(\w+)\(alloc, ((?:".*?", )+)(\w+::\w+)\)(?:\.read_by\((?:up_to\(([\d_]+)\)|value_parser!\((\w+)\))\))?'
+    return {name: argument(texts, *groups) for name, groups in arms("parts.rt", "arg", form).items()}
 
-    def __init__(self):
-        text = re.sub(r"^ *//.*\n", "", read(f"{SOURCE}/commands.rt"), flags=re.MULTILINE)
-        found = re.findall(r"^(?:pub\(crate\) )?fn (\w+)<'a>\(([^)]*)\)[^;]*?\n\{\n(.*?)^\}",
-                           text, re.DOTALL | re.MULTILINE)
-        self.functions = {name: (re.findall(r"(\w+): ", parameters), body) for name, parameters, body in found}
-        self.texts = read_texts()
 
-    def program(self):
-        """What `Shaped::program` of shaped.rt makes: the program without a command."""
-        text = read(f"{SOURCE}/shaped.rt")
-        named = re.search(r'named\(alloc, "(\w+)", help::(\w+)\)', text)
-        version = re.search(r'\.version\("([\d.]+)"\)', text)
-        if not named or not version:
-            fail(f"{SOURCE}/shaped.rt: the name, the help or the version of the program is not understood")
-        return shaped(named[1], self.texts[f"help::{named[2]}"]).set("version", version[1])
+def program_of(texts):
+    """What `Shaped::program` of shaped.rt makes: the program without a command."""
+    text = read(f"{SOURCE}/shaped.rt")
+    named = re.search(r'named\(alloc, "(\w+)", help::(\w+)\)', text)
+    version = re.search(r'\.version\("([\d.]+)"\)', text)
+    if not named or not version:
+        fail(f"{SOURCE}/shaped.rt: the name, the help or the version of the program is not understood")
+    about = text_of(texts, f"help::{named[2]}")
+    return Named(named[1], about=about["about"], after_help=about["after"], version=version[1], arg=[])
 
 
 def is_path(arg):
@@ -277,11 +173,18 @@ def checked(command):
 
 def read_program():
     """The program as a command: its commands are in `subcommand`."""
-    program = Body(Source(), "command", [None]).result()
-    names = [it.name for it in program["subcommand"]]
-    verbs = re.findall(r'^            Verb::\w+ => "(.*?)",$', read(f"{SOURCE}/verb.rt"), re.MULTILINE)
-    for name in sorted({*names} ^ {*verbs}):
-        fail(f"the command {name} is in only one of commands.rt and verb.rt")
+    texts = read_texts()
+    parts = parts_by_name(texts)
+    words, helps = arms("verb.rt", "word", '"(.*?)"'), arms("verb.rt", "help", r"(\w+::\w+)")
+    lists = [arms("verb.rt", function, r"&\[(.*?)\]") for function in ("parts", "flags")]
+    verbs = re.search(r"\bconst ALL: \[Verb; \d+\] = \[(.*?)\];", read(f"{SOURCE}/verb.rt"), re.DOTALL)
+    program = program_of(texts)
+    program["subcommand"] = []
+    for verb in re.findall(r"Verb::(\w+)", verbs[1] if verbs else fail(f"{SOURCE}/verb.rt has no list ALL")):
+        text = text_of(texts, helps[verb][0])
+        names = [name for rows in lists for name in re.findall(r"Part::(\w+)", (rows.get(verb) or rows["_"])[0])]
+        program["subcommand"].append(Named(words[verb][0], about=text["about"], after_help=text["after"],
+                                           arg=[parts[name] for name in names]))
     for command in (program, *program["subcommand"]):
         checked(command)
     return program

@@ -1,188 +1,64 @@
 -- The commands of the program, with their arguments, as `clap` has them.
-use Rattle.std.specs.Prelude.{Some, true, codes, pos}
+use Rattle.std.specs.Prelude.{◌∷◌, [], List, Some, true, codes, pos}
+use Rattle.std.specs.List.{fold}
 use Rattle.clap.specs.Words.{App, Rule, Text, new_app, new_rule, with_rule, with_subcommand}
 use Rattle.clap.specs.declared.builder.action.ArgAction.TheVariants.{Set, SetTrue}
+use Rattle.clap.specs.declared.builder.value_parser.ValueParser.{ValueParser}
 use Rattle.clap.specs.declared.builder.value_parser.ValueParser.TheVariants.{Signed, Unsigned}
+use Rattle.bk_cli.specs.declared.parts.Part.{Part}
+use Rattle.bk_cli.specs.declared.parts.Part.TheVariants as part
+use Rattle.bk_cli.specs.declared.verb.TheConstants.{ALL}
 use Rattle.bk_cli.specs.declared.verb.Verb.{Verb}
 use Rattle.bk_cli.specs.declared.verb.Verb.TheVariants as verb
 
 -- ---- the arguments
 
--- the argument FILE
-abbrev pub file_rule : Rule
-file_rule = record (new_rule (codes "FILE")) { action = Some Set }
+-- an argument that takes a value, any text
+abbrev pub valued_rule : Text → Rule
+valued_rule name = record (new_rule name) { action = Some Set }
 
--- the option `--workers W`, a number from 1 to 64
-abbrev pub workers_rule : Rule
-workers_rule = record (new_rule (codes "workers")) {
-  long = Some (codes "workers");
-  action = Some Set;
-  value_names = 1;
-  parser = Some (Signed (pos 1) (pos 64));
-}
-
--- an argument that is required, any text
+-- one that is required
 abbrev pub required_rule : Text → Rule
 required_rule name = record (new_rule name) { action = Some Set; required = true }
 
--- the argument ROOT
-abbrev pub root_rule : Rule
-root_rule = required_rule (codes "ROOT")
+-- an option that takes a value
+abbrev pub option_rule : Text → Rule
+option_rule name = record (new_rule name) { long = Some name; action = Some Set; value_names = 1 }
 
--- the argument REPORT
-abbrev pub report_rule : Rule
-report_rule = required_rule (codes "REPORT")
-
--- the argument FEED
-abbrev pub feed_rule : Rule
-feed_rule = required_rule (codes "FEED")
-
--- the argument EVENTS
-abbrev pub events_rule : Rule
-events_rule = required_rule (codes "EVENTS")
-
--- the argument FEED1
-abbrev pub first_feed_rule : Rule
-first_feed_rule = required_rule (codes "FEED1")
-
--- the argument FEED2
-abbrev pub second_feed_rule : Rule
-second_feed_rule = required_rule (codes "FEED2")
-
--- the option `--from R`, a number from 1 to 1,000,000
-abbrev pub from_rule : Rule
-from_rule = record (new_rule (codes "from")) {
-  long = Some (codes "from");
-  action = Some Set;
-  value_names = 1;
-  parser = Some (Signed (pos 1) (pos 1000000));
-}
-
--- the option `--rounds N`, a number from 1 to 1,000
-abbrev pub rounds_rule : Rule
-rounds_rule = record (new_rule (codes "rounds")) {
-  long = Some (codes "rounds");
-  action = Some Set;
-  value_names = 1;
-  parser = Some (Signed (pos 1) (pos 1000));
-}
-
--- the option `--links all|votes|none`
-abbrev pub links_rule : Rule
-links_rule = record (new_rule (codes "links")) {
-  long = Some (codes "links");
-  action = Some Set;
-  value_names = 1;
-}
-
--- the option `--accounts LIST`
-abbrev pub accounts_rule : Rule
-accounts_rule = record (new_rule (codes "accounts")) {
-  long = Some (codes "accounts");
-  action = Some Set;
-  value_names = 1;
-}
-
--- the option `--account ID`, a number below 2^64
-abbrev pub account_rule : Rule
-account_rule = record (new_rule (codes "account")) {
-  long = Some (codes "account");
-  action = Some Set;
-  value_names = 1;
-  parser = Some (Unsigned 0 18446744073709551615);
-}
-
--- an option without a value, by its name
+-- an option without a value
 abbrev pub flag_rule : Text → Rule
 flag_rule name = record (new_rule name) { long = Some name; action = Some SetTrue }
 
--- the argument ID, a number below 2^64
-abbrev pub id_rule : Rule
-id_rule = record (new_rule (codes "ID")) {
-  action = Some Set;
-  required = true;
-  parser = Some (Unsigned 0 18446744073709551615);
-}
+-- the same whose value this parser reads
+abbrev pub read_by : ValueParser → Rule → Rule
+read_by parser r = record r { parser = Some parser }
 
--- the argument PLACE, a number below 2^32
-abbrev pub place_rule : Rule
-place_rule = record (new_rule (codes "PLACE")) {
-  action = Some Set;
-  required = true;
-  parser = Some (Signed (pos 0) (pos 4294967295));
-}
+-- each argument: of the options `--workers` takes a number from 1 to 64, `--from` one to 1,000,000 and `--rounds` one to 1,000; the
+-- ids of accounts are below 2^64, and places below 2^32
+abbrev pub rule_of : Part → Rule
+rule_of part.File = valued_rule (codes "FILE")
+rule_of part.Workers = read_by (Signed (pos 1) (pos 64)) (option_rule (codes "workers"))
+rule_of part.EventWorkers = read_by (Signed (pos 1) (pos 64)) (option_rule (codes "workers"))
+rule_of part.From = read_by (Signed (pos 1) (pos 1000000)) (option_rule (codes "from"))
+rule_of part.Rounds = read_by (Signed (pos 1) (pos 1000)) (option_rule (codes "rounds"))
+rule_of part.Links = option_rule (codes "links")
+rule_of part.Accounts = option_rule (codes "accounts")
+rule_of part.Account = read_by (Unsigned 0 18446744073709551615) (option_rule (codes "account"))
+rule_of part.Id = read_by (Unsigned 0 18446744073709551615) (required_rule (codes "ID"))
+rule_of part.Place = read_by (Signed (pos 0) (pos 4294967295)) (required_rule (codes "PLACE"))
+rule_of part.Root = required_rule (codes "ROOT")
+rule_of part.Report = required_rule (codes "REPORT")
+rule_of part.Feed = required_rule (codes "FEED")
+rule_of part.Events = required_rule (codes "EVENTS")
+rule_of part.Feed1 = required_rule (codes "FEED1")
+rule_of part.Feed2 = required_rule (codes "FEED2")
+rule_of part.Follow = flag_rule (codes "follow")
+rule_of part.Wait = flag_rule (codes "wait")
+rule_of part.Strict = flag_rule (codes "strict")
+rule_of part.Progress = flag_rule (codes "progress")
+rule_of part.Verbose = flag_rule (codes "verbose")
 
 -- ---- the commands
-
--- a command with the option `--verbose`, which every command has
-abbrev pub worded_line : App → App
-worded_line a = with_rule a (flag_rule (codes "verbose"))
-
--- the same with the option `--progress`, which a command has that reads a feed
-abbrev pub noted_line : App → App
-noted_line a = worded_line (with_rule a (flag_rule (codes "progress")))
-
--- the same with the option `--strict`, which a command has whose feed may fall short
-abbrev pub judged_line : App → App
-judged_line a = noted_line (with_rule a (flag_rule (codes "strict")))
-
--- a command `NAME [FILE]` of a text
-abbrev pub text_line : Text → App
-text_line name = worded_line (with_rule (new_app name) file_rule)
-
--- a command `NAME [FILE]` of a feed
-abbrev pub file_line : Text → App
-file_line name = noted_line (with_rule (new_app name) file_rule)
-
--- the same with `--strict`
-abbrev pub feed_line : Text → App
-feed_line name = judged_line (with_rule (new_app name) file_rule)
-
--- the same with one argument more in front
-abbrev pub value_line : Text → Rule → App
-value_line name rule = judged_line (with_rule (with_rule (new_app name) rule) file_rule)
-
--- a command `NAME [--workers W] VALUE [FILE]`, where the value is this argument
-abbrev pub working_line : Text → Rule → App
-working_line name rule = judged_line (with_rule (with_rule (with_rule (new_app name) workers_rule) rule) file_rule)
-
--- the command `schedule [--workers W] FEED EVENTS`
-abbrev pub schedule_line : App
-schedule_line =
-    let named = new_app (codes "schedule") in
-    noted_line (with_rule (with_rule (with_rule named workers_rule) feed_rule) events_rule)
-
--- the command `dag [--from R] [--rounds N] [--links all|votes|none] [FILE]`
-abbrev pub dag_line : App
-dag_line =
-    let named = new_app (codes "dag") in
-    judged_line (with_rule (with_rule (with_rule (with_rule named from_rule) rounds_rule) links_rule) file_rule)
-
--- the options `--follow` and `--wait`
-abbrev pub follow_rule : Rule
-follow_rule = flag_rule (codes "follow")
-
-abbrev pub wait_rule : Rule
-wait_rule = flag_rule (codes "wait")
-
--- a command `NAME [--workers W] [--accounts LIST]`
-abbrev pub picking_line : Text → App
-picking_line name = with_rule (with_rule (new_app name) workers_rule) accounts_rule
-
--- a command `NAME [--workers W] [--accounts LIST] [--follow] [--wait] [FILE]`
-abbrev pub table_line : Text → App
-table_line name = judged_line (with_rule (with_rule (with_rule (picking_line name) follow_rule) wait_rule) file_rule)
-
--- the command `check-proof [--account ID] ROOT [FILE]`
-abbrev pub proof_line : App
-proof_line =
-    let named = new_app (codes "check-proof") in
-    worded_line (with_rule (with_rule (with_rule named account_rule) root_rule) file_rule)
-
--- the command `compare FEED1 FEED2`
-abbrev pub compare_line : App
-compare_line =
-    judged_line (with_rule (with_rule (new_app (codes "compare")) first_feed_rule) second_feed_rule)
 
 -- the word of a command
 abbrev pub word_of : Verb → Text
@@ -212,33 +88,43 @@ word_of verb.Compare = codes "compare"
 word_of verb.Link = codes "link"
 word_of verb.CheckChain = codes "check-chain"
 
--- a command with its arguments
-abbrev pub line_of : Verb → App
-line_of verb.Run = value_line (codes "run") workers_rule
-line_of verb.Make = text_line (codes "make")
-line_of verb.Order = feed_line (codes "order")
-line_of verb.Account = value_line (codes "account") id_rule
-line_of verb.Receipt = value_line (codes "receipt") place_rule
-line_of verb.Prove = value_line (codes "prove") id_rule
-line_of verb.Frames = feed_line (codes "frames")
-line_of verb.Summary = value_line (codes "summary") workers_rule
-line_of verb.Anchors = feed_line (codes "anchors")
-line_of verb.Dag = dag_line
-line_of verb.Statement = working_line (codes "statement") id_rule
-line_of verb.Transactions = table_line (codes "transactions")
-line_of verb.Postings = table_line (codes "postings")
-line_of verb.Batches = feed_line (codes "batches")
-line_of verb.Waiting = feed_line (codes "waiting")
-line_of verb.Missing = feed_line (codes "missing")
-line_of verb.Evidence = file_line (codes "evidence")
-line_of verb.CheckProof = proof_line
-line_of verb.CheckState = working_line (codes "check-state") root_rule
-line_of verb.CheckReport = working_line (codes "check-report") report_rule
-line_of verb.Apply = file_line (codes "apply")
-line_of verb.Schedule = schedule_line
-line_of verb.Compare = compare_line
-line_of verb.Link = value_line (codes "link") workers_rule
-line_of verb.CheckChain = text_line (codes "check-chain")
+-- its arguments, before the options that many commands have
+abbrev pub parts_of : Verb → List Part
+parts_of verb.Run = part.Workers ∷ part.File ∷ []
+parts_of verb.Summary = part.Workers ∷ part.File ∷ []
+parts_of verb.Link = part.Workers ∷ part.File ∷ []
+parts_of verb.Account = part.Id ∷ part.File ∷ []
+parts_of verb.Prove = part.Id ∷ part.File ∷ []
+parts_of verb.Receipt = part.Place ∷ part.File ∷ []
+parts_of verb.Dag = part.From ∷ part.Rounds ∷ part.Links ∷ part.File ∷ []
+parts_of verb.Statement = part.Workers ∷ part.Id ∷ part.File ∷ []
+parts_of verb.Transactions = part.Workers ∷ part.Accounts ∷ part.Follow ∷ part.Wait ∷ part.File ∷ []
+parts_of verb.Postings = part.Workers ∷ part.Accounts ∷ part.Follow ∷ part.Wait ∷ part.File ∷ []
+parts_of verb.CheckProof = part.Account ∷ part.Root ∷ part.File ∷ []
+parts_of verb.CheckState = part.Workers ∷ part.Root ∷ part.File ∷ []
+parts_of verb.CheckReport = part.Workers ∷ part.Report ∷ part.File ∷ []
+parts_of verb.Schedule = part.EventWorkers ∷ part.Feed ∷ part.Events ∷ []
+parts_of verb.Compare = part.Feed1 ∷ part.Feed2 ∷ []
+parts_of other = part.File ∷ []
+
+-- and these options: `--verbose`, which every command has, `--progress`, which one has that reads a feed, and `--strict`, which one
+-- has whose feed may fall short
+abbrev pub flags_of : Verb → List Part
+flags_of verb.Make = part.Verbose ∷ []
+flags_of verb.CheckProof = part.Verbose ∷ []
+flags_of verb.CheckChain = part.Verbose ∷ []
+flags_of verb.Evidence = part.Progress ∷ part.Verbose ∷ []
+flags_of verb.Apply = part.Progress ∷ part.Verbose ∷ []
+flags_of verb.Schedule = part.Progress ∷ part.Verbose ∷ []
+flags_of other = part.Strict ∷ part.Progress ∷ part.Verbose ∷ []
+
+-- an argument more
+abbrev pub with_part : App → Part → App
+with_part a p = with_rule a (rule_of p)
+
+-- a command by this name, with its arguments
+abbrev pub line_named : Text → Verb → App
+line_named name v = fold with_part (fold with_part (new_app name) (parts_of v)) (flags_of v)
 
 -- the program's name, with a version
 abbrev pub program : App
@@ -252,37 +138,8 @@ program = let a = new_app (codes "bkreplay") in record a {
 
 -- a command more
 abbrev pub with_command : App → Verb → App
-with_command a v = with_subcommand a (line_of v).top
-
--- the program with the commands that write a report, a feed or the reply to a query
-abbrev pub asking_line : App
-asking_line =
-    with_command (with_command (with_command (with_command (with_command (with_command program
-    verb.Run) verb.Make) verb.Order) verb.Account) verb.Receipt) verb.Prove
-
--- and with those that show what is in a feed
-abbrev pub viewing_line : App
-viewing_line =
-    with_command (with_command (with_command (with_command (with_command asking_line
-    verb.Frames) verb.Summary) verb.Anchors) verb.Dag) verb.Statement
-
--- and with those that write a table
-abbrev pub tabling_line : App
-tabling_line =
-    with_command (with_command (with_command viewing_line verb.Transactions) verb.Postings) verb.Batches
-
--- and with those that say what is wrong with a feed
-abbrev pub diagnosing_line : App
-diagnosing_line =
-    with_command (with_command (with_command tabling_line verb.Waiting) verb.Missing) verb.Evidence
-
--- and with those that check something
-abbrev pub checking_line : App
-checking_line =
-    with_command (with_command (with_command diagnosing_line verb.CheckProof) verb.CheckState) verb.CheckReport
+with_command a v = with_subcommand a (line_named (word_of v) v).top
 
 -- the whole command line: `bkreplay`, and one of the commands
 abbrev pub command_line : App
-command_line =
-    with_command (with_command (with_command (with_command (with_command checking_line
-    verb.Apply) verb.Schedule) verb.Compare) verb.Link) verb.CheckChain
+command_line = fold with_command program ALL

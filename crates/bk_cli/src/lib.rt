@@ -22,6 +22,7 @@ mod making;
 mod more_help;
 mod notes;
 mod parsing;
+mod parts;
 mod remarking;
 mod remarks;
 mod shaped;

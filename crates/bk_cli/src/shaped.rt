@@ -4,11 +4,10 @@
 //! `Shaped` or a `Plain` it owns one value. No method fails: a `?` would be one more exit, at which all that is owned is dropped.
 //! If memory runs out, the command is lost, and `into_command` reports it.
 
-ghost use Rattle.std.specs.Prelude.{◌≡◌, Some, true, false, IfOk, IfSome};
-ghost use Rattle.clap.specs.Words.{App, Rule, app_of, new_app, new_rule, with_rule, with_subcommand};
-ghost use Rattle.clap.specs.declared.builder.action.ArgAction.TheVariants.{Set};
+ghost use Rattle.std.specs.Prelude.{◌≡◌, false, IfOk, IfSome};
+ghost use Rattle.clap.specs.Words.{App, Rule, app_of, new_app, with_rule, with_subcommand};
 ghost use Rattle.clap.specs.declared.builder.command.Command.TheViews.{out-Command};
-ghost use Rattle.bk_cli.specs.Commands.{flag_rule, program};
+ghost use Rattle.bk_cli.specs.Commands.{flag_rule, option_rule, program, read_by, required_rule, valued_rule};
 
 use crate::help::{self, Help};
 use clap::builder::ValueParser;
@@ -36,7 +35,7 @@ impl<'a> Model for Plain<'a> {
 impl<'a> Plain<'a> {
     /// An argument that takes a value.
     pub fn valued(alloc: Global, name: &'a str, text: &'a str) -> Plain<'a>
-        ensures { result ≡ record (new_rule name.now) { action = Some Set } }
+        ensures { result ≡ valued_rule name.now }
     {
         let arg = Arg::new(alloc, name).action(ArgAction::Set).help(text);
         Plain { arg }
@@ -53,25 +52,32 @@ impl<'a> Plain<'a> {
         Plain { arg }
     }
 
-    /// The same as the option `--name`, of which help calls the value by this letter.
-    pub fn option(self, name: &'a str, letter: &'a str) -> Plain<'a>
-        ensures { result ≡ record self.entry { long = Some name.now; value_names = 1 } }
+    /// The option `--name`, of which help calls the value by this letter.
+    pub fn option(alloc: Global, name: &'a str, letter: &'a str, text: &'a str) -> Plain<'a>
+        ensures { result ≡ option_rule name.now }
     {
-        let arg = self.arg.long(name).value_name(letter);
+        let arg = Arg::new(alloc, name)
+            .long(name)
+            .action(ArgAction::Set)
+            .value_name(letter)
+            .help(text);
         Plain { arg }
     }
 
-    /// The same as one that is required.
-    pub fn required(self) -> Plain<'a>
-        ensures { result ≡ record self.entry { required = true } }
+    /// An argument that is required.
+    pub fn required(alloc: Global, name: &'a str, text: &'a str) -> Plain<'a>
+        ensures { result ≡ required_rule name.now }
     {
-        let arg = self.arg.required(true);
+        let arg = Arg::new(alloc, name)
+            .action(ArgAction::Set)
+            .required(true)
+            .help(text);
         Plain { arg }
     }
 
     /// The same with what its value has to be.
     pub fn read_by(self, parser: ValueParser<'a>) -> Plain<'a>
-        ensures { result ≡ record self.entry { parser = Some parser.entry } }
+        ensures { result ≡ read_by parser.entry self.entry }
     {
         let arg = self.arg.value_parser(parser);
         Plain { arg }

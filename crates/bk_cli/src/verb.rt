@@ -1,8 +1,12 @@
-//! The commands by name.
+//! The commands: the word of each, its arguments and its help.
 
 ghost use Rattle.std.specs.Prelude.{◌≡◌};
 ghost use Rattle.bk_cli.specs.CommandLine.{IsOneOf, all_words};
-ghost use Rattle.bk_cli.specs.Commands.{word_of};
+ghost use Rattle.bk_cli.specs.Commands.{flags_of, parts_of, word_of};
+
+use crate::help::{self, Help};
+use crate::parts::Part;
+use crate::{diagnosis_help, more_help, table_help};
 
 /// The name of a command.
 #[derive(Clone, Copy)]
@@ -34,8 +38,8 @@ pub(crate) enum Verb {
     CheckChain,
 }
 
-// All commands.
-const ALL: [Verb; 25] = [
+/// All commands, in the order in which a user meets them.
+pub(crate) const ALL: [Verb; 25] = [
     Verb::Run,
     Verb::Make,
     Verb::Order,
@@ -64,8 +68,8 @@ const ALL: [Verb; 25] = [
 ];
 
 impl Verb {
-    // The word of the command.
-    fn word(self) -> &'static str
+    /// The word of the command.
+    pub(crate) fn word(self) -> &'static str
         ensures { result.now ≡ word_of self }
     {
         match self {
@@ -94,6 +98,74 @@ impl Verb {
             Verb::Compare => "compare",
             Verb::Link => "link",
             Verb::CheckChain => "check-chain",
+        }
+    }
+
+    /// Its arguments, before the options that many commands have.
+    pub(crate) fn parts(self) -> &'static [Part]
+        ensures { result.now ≡ parts_of self }
+    {
+        match self {
+            Verb::Run | Verb::Summary | Verb::Link => &[Part::Workers, Part::File],
+            Verb::Account | Verb::Prove => &[Part::Id, Part::File],
+            Verb::Receipt => &[Part::Place, Part::File],
+            Verb::Dag => &[Part::From, Part::Rounds, Part::Links, Part::File],
+            Verb::Statement => &[Part::Workers, Part::Id, Part::File],
+            Verb::Transactions | Verb::Postings => &[
+                Part::Workers,
+                Part::Accounts,
+                Part::Follow,
+                Part::Wait,
+                Part::File,
+            ],
+            Verb::CheckProof => &[Part::Account, Part::Root, Part::File],
+            Verb::CheckState => &[Part::Workers, Part::Root, Part::File],
+            Verb::CheckReport => &[Part::Workers, Part::Report, Part::File],
+            Verb::Schedule => &[Part::EventWorkers, Part::Feed, Part::Events],
+            Verb::Compare => &[Part::Feed1, Part::Feed2],
+            _ => &[Part::File],
+        }
+    }
+
+    /// And these options: `--strict` has a command whose feed may fall short, and `--progress` one that reads a feed.
+    pub(crate) fn flags(self) -> &'static [Part]
+        ensures { result.now ≡ flags_of self }
+    {
+        match self {
+            Verb::Make | Verb::CheckProof | Verb::CheckChain => &[Part::Verbose],
+            Verb::Evidence | Verb::Apply | Verb::Schedule => &[Part::Progress, Part::Verbose],
+            _ => &[Part::Strict, Part::Progress, Part::Verbose],
+        }
+    }
+
+    /// Its help.
+    pub(crate) fn help(self) -> Help<'static> {
+        match self {
+            Verb::Run => help::RUN,
+            Verb::Make => help::MAKE,
+            Verb::Order => help::ORDER,
+            Verb::Account => help::ACCOUNT,
+            Verb::Receipt => help::RECEIPT,
+            Verb::Prove => help::PROVE,
+            Verb::Frames => help::FRAMES,
+            Verb::Summary => help::SUMMARY,
+            Verb::Anchors => help::ANCHORS,
+            Verb::Dag => help::DAG,
+            Verb::Statement => help::STATEMENT,
+            Verb::Transactions => table_help::TRANSACTIONS,
+            Verb::Postings => table_help::POSTINGS,
+            Verb::Batches => table_help::BATCHES,
+            Verb::Waiting => diagnosis_help::WAITING,
+            Verb::Missing => diagnosis_help::MISSING,
+            Verb::Evidence => diagnosis_help::EVIDENCE,
+            Verb::CheckProof => more_help::CHECK_PROOF,
+            Verb::CheckState => more_help::CHECK_STATE,
+            Verb::CheckReport => more_help::CHECK_REPORT,
+            Verb::Apply => more_help::APPLY,
+            Verb::Schedule => more_help::SCHEDULE,
+            Verb::Compare => more_help::COMPARE,
+            Verb::Link => table_help::LINK,
+            Verb::CheckChain => table_help::CHECK_CHAIN,
         }
     }
 

@@ -2,4 +2,4 @@
 use Rattle.bk_cli.proofs.commands.command.Goals as goal
 
 pub returns-clause-line : goal.returns-clause-line
-returns-clause-line c = c.into_command.ensures.line _ c.whole_command.ensures
+returns-clause-line c = c.into_command.ensures.line _ c.whole.ensures

@@ -1,8 +1,0 @@
--- Each argument is added to those before it.
-use Rattle.bk_cli.proofs.commands.schedule_command.Goals as goal
-
-pub returns : goal.returns
-returns c =
-    let workers = c.arg.ensures _ _ c.new.ensures c.workers_arg.ensures in
-    let feed = c.arg-2.ensures _ _ workers c.required_arg.ensures in
-    c.noted.ensures _ (c.arg-command.ensures _ _ feed c.required_arg-2.ensures)
