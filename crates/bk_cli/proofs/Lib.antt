@@ -1,5 +1,4 @@
 mod LeadLemmas
-mod LineLemmas
 mod ReportLemmas
 mod WordLemmas
 mod ZipLemmas

@@ -20,8 +20,9 @@ use Rattle.bk_results.specs.declared.script_fault.ScriptFault.TheVariants as tex
 use Rattle.bk_results.specs.Lines.{spaced}
 use Rattle.bk_base.specs.declared.refused.Refused as refused
 use Rattle.bk_base.specs.declared.refused.Refused.TheVariants as reason
-use Rattle.bk_cli.specs.FaultLines.{digits_of, line_of}
+use Rattle.bk_cli.specs.FaultLines.{line_of}
 use Rattle.bk_cli.specs.Files.{about_of, name_of, shown}
+use Rattle.bk_cli.specs.Pieces.{digits_of}
 use Rattle.bk_cli.specs.declared.about.FaultSubject.TheVariants as about
 use Rattle.bk_cli.specs.declared.remarks.Remarks.{Remarks}
 use Rattle.bk_cli.specs.declared.job.Job.{Job}
@@ -29,6 +30,10 @@ use Rattle.bk_cli.specs.declared.job_fault.JobFault.{JobFault}
 use Rattle.bk_cli.specs.declared.job_fault.JobFault.TheVariants as fault
 use Rattle.bk_cli.specs.declared.list_fault.ListFault.{ListFault}
 use Rattle.bk_cli.specs.declared.list_fault.ListFault.TheVariants as list
+
+-- words after a colon, up to the end of their line
+abbrev pub ended : List ℕ → List ℕ
+ended words = codes ": " ++ words ++ codes "\n"
 
 -- ---- feeds
 
@@ -99,9 +104,13 @@ text_words text.Read = codes "it could not be opened or read"
 text_words (text.Write written) = codes "it could not be written"
 text_words text.Memory = codes "memory ran out"
 
+-- what is wrong with a line of a file
+abbrev pub line_words : ℕ → List ℕ → List ℕ
+line_words line wrong = codes "line" ++ spaced line ++ wrong
+
 -- a list of events that was not read
 abbrev pub unread_words : LinesFault → List ℕ
-unread_words (events.Line line) = codes "line" ++ spaced line ++ codes " is not an event"
+unread_words (events.Line line) = line_words line (codes " is not an event")
 unread_words events.Read = codes "it could not be opened or read"
 unread_words events.Memory = codes "memory ran out"
 
@@ -152,14 +161,14 @@ no_remarks = record { first = None; second = None; forged = None }
 abbrev pub gap_words : List ℕ → List ℕ
 gap_words digest = codes "the order stops at the missing batch" ++ digits_of digest
 
--- the same after other words
-abbrev pub and_gap : Option (List ℕ) → List ℕ
-and_gap None = []
-and_gap (Some digest) = codes "; " ++ gap_words digest
+-- what a feed has not, and the same where its order stops so
+abbrev pub absent_words : List ℕ → ℕ → Option (List ℕ) → List ℕ
+absent_words what n None = what ++ spaced n
+absent_words what n (Some digest) = what ++ spaced n ++ codes "; the order stops at the missing batch" ++ digits_of digest
 
 -- the line of a feed of this name whose order stops so
 abbrev pub gap_line : List ℕ → List ℕ → List ℕ
-gap_line name digest = codes "bkreplay: " ++ (shown name ++ (codes ": " ++ gap_words digest ++ codes "\n"))
+gap_line name digest = codes "bkreplay: " ++ (shown name ++ ended (gap_words digest))
 
 -- nothing where it stops at none
 abbrev pub gap_note : List ℕ → Option (List ℕ) → List ℕ
@@ -175,7 +184,7 @@ tag_words wrong =
 -- the line of a feed of this name that has it, nothing where none has
 abbrev pub tag_note : List ℕ → Option WrongTag → List ℕ
 tag_note name None = []
-tag_note name (Some wrong) = codes "bkreplay: " ++ (shown name ++ (codes ": " ++ tag_words wrong ++ codes "\n"))
+tag_note name (Some wrong) = codes "bkreplay: " ++ (shown name ++ ended (tag_words wrong))
 
 -- the lines for the feeds of a job
 abbrev pub remarks_told : Job → Remarks → List ℕ
@@ -190,17 +199,15 @@ abbrev pub words_of : JobFault → List ℕ
 words_of (fault.Replay e) = replay_words e
 words_of (fault.Text e) = text_words e
 words_of (fault.Events e) = list_words e
-words_of (fault.Accounts line) =
-    codes "line" ++ spaced line ++ codes " is not the id of an account, or ends a list that is too long"
-words_of (fault.Links line) =
-    codes "line" ++ spaced line ++ codes " is not a line of `link`, or ends a text that is too long"
+words_of (fault.Accounts line) = line_words line (codes " is not the id of an account, or ends a list that is too long")
+words_of (fault.Links line) = line_words line (codes " is not a line of `link`, or ends a text that is too long")
 words_of (fault.Compared e) = compare_words e
-words_of (fault.AbsentAccount id missing) = codes "there is no account" ++ spaced id ++ and_gap missing
-words_of (fault.AbsentPlace place missing) = codes "there is no transaction at place" ++ spaced place ++ and_gap missing
+words_of (fault.AbsentAccount id missing) = absent_words (codes "there is no account") id missing
+words_of (fault.AbsentPlace place missing) = absent_words (codes "there is no transaction at place") place missing
 
 -- the line that has a fault in words, after the name of what it is about
 abbrev pub note_line : List ℕ → JobFault → List ℕ
-note_line name e = codes "bkreplay: " ++ (shown name ++ (codes ": " ++ words_of e ++ codes "\n"))
+note_line name e = codes "bkreplay: " ++ (shown name ++ ended (words_of e))
 
 -- what is told of a fault that is about something of this name
 abbrev pub told_of : Bool → List ℕ → JobFault → List ℕ

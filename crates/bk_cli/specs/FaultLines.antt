@@ -1,6 +1,5 @@
 -- The line that reports a fault.
-use Rattle.std.specs.Prelude.{ℕ, ◌<◌, List, ◌∷◌, ◌++◌, ◌⊎◌, codes, length, take}
-use Rattle.hex.specs.Hex.{encode_lower}
+use Rattle.std.specs.Prelude.{ℕ, ◌<◌, List, ◌++◌, ◌⊎◌, codes, length, take}
 use Rattle.bk_frames.specs.Device.{Device, Works, Fails, Receives}
 use Rattle.bk_frames.specs.Faults.{fault_text}
 use Rattle.bk_results.specs.declared.compare_stop.CompareStop.{CompareStop}
@@ -16,14 +15,11 @@ use Rattle.bk_results.specs.declared.lines_fault.LinesFault.{LinesFault}
 use Rattle.bk_results.specs.declared.lines_fault.LinesFault.TheVariants as events
 use Rattle.bk_results.specs.declared.script_fault.ScriptFault.{ScriptFault}
 use Rattle.bk_results.specs.declared.script_fault.ScriptFault.TheVariants as text
+use Rattle.bk_cli.specs.Pieces.{digits_of}
 use Rattle.bk_cli.specs.declared.job_fault.JobFault.{JobFault}
 use Rattle.bk_cli.specs.declared.job_fault.JobFault.TheVariants as fault
 use Rattle.bk_cli.specs.declared.list_fault.ListFault.{ListFault}
 use Rattle.bk_cli.specs.declared.list_fault.ListFault.TheVariants as list
-
--- a space and the digits of a digest
-abbrev pub digits_of : List ℕ → List ℕ
-digits_of digest = 32 ∷ encode_lower digest
 
 -- what reports twins: their round and author, and the ids of both
 abbrev pub twins_text : ℕ → ℕ → List ℕ → List ℕ → List ℕ

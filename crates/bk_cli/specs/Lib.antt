@@ -5,6 +5,7 @@ pub mod Explanations
 pub mod FaultLines
 pub mod Files
 pub mod Links
+pub mod Pieces
 pub mod Windows
 pub mod Strictness
 pub mod Words

@@ -4,7 +4,8 @@ use Rattle.bk_frames.specs.Device.{Device}
 use Rattle.bk_results.specs.Lines.{spaced}
 use Rattle.bk_results.specs.declared.flaw.Flaw.{Flaw}
 use Rattle.bk_results.specs.declared.flaw.Flaw.TheVariants as flaw
-use Rattle.bk_cli.specs.FaultLines.{Reports, digits_of}
+use Rattle.bk_cli.specs.FaultLines.{Reports}
+use Rattle.bk_cli.specs.Pieces.{digits_of}
 use Rattle.bk_cli.specs.declared.exit.Exit.{Exit}
 use Rattle.bk_cli.specs.declared.exit.Exit.TheVariants as exit
 

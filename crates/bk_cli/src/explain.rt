@@ -1,22 +1,27 @@
 //! The line that has a fault in words.
 
-ghost use Rattle.std.specs.Prelude.{◌≡◌, ◌+◌, ◌≤◌, ◌++◌, length, codes};
-ghost use Rattle.arrayvec.specs.ArrayVec.{array_vec_len};
-ghost use Rattle.bk_cli.specs.Explanations.{back_words, front_words, hint_words, refused_words, script_words};
-ghost use Rattle.bk_cli.specs.Explanations.{collision_words, compare_words, differ_words, feed_words, list_words, setup_words};
-ghost use Rattle.bk_cli.specs.Explanations.{replay_words, text_words, twins_words, unread_words, words_of};
-ghost use Rattle.bk_cli.specs.Explanations.{and_gap, gap_words, tag_words};
+ghost use Rattle.std.specs.Prelude.{◌≡◌, ◌+◌, ◌<◌, ◌≤◌, ◌++◌, length, codes};
+ghost use Rattle.std.specs.List.{sum_by};
+ghost use Rattle.bk_cli.specs.Explanations.{absent_words, back_words, collision_words, compare_words, differ_words, ended};
+ghost use Rattle.bk_cli.specs.Explanations.{feed_words, front_words, hint_words, line_words, list_words, refused_words};
+ghost use Rattle.bk_cli.specs.Explanations.{replay_words, script_words, setup_words, text_words, twins_words, unread_words, words_of};
+ghost use Rattle.bk_cli.specs.Pieces.{room, said};
 
-use crate::fault_line::put_digest;
 use crate::job_fault::JobFault;
-use crate::line::{ShortLine, put_number, put_text};
+use crate::line::{Piece, ShortLine, short_line};
 use crate::list_fault::ListFault;
 use bk_base::Refused;
 use bk_digest::Digest32;
 use bk_frames::{FaultCode, FeedFault};
-use bk_results::{
-    CompareStop, Differ, Fault, LinesFault, ScriptCode, ScriptFault, SetupPart, WrongTag,
-};
+use bk_results::{CompareStop, Differ, Fault, LinesFault, ScriptCode, ScriptFault, SetupPart};
+
+/// These pieces, after a colon and up to the end of their line.
+pub(crate) fn words(pieces: &[Piece<'_>]) -> ShortLine
+    requires { sum_by room pieces.now < 190 }
+    ensures { result.items ≡ ended (said pieces.now) }
+{
+    short_line(b": ", pieces)
+}
 
 // What is in front of the byte at which the fault of a feed is.
 fn front(code: FaultCode) -> &'static [u8]
@@ -64,61 +69,56 @@ fn hint(code: FaultCode, offset: u64) -> &'static [u8]
     }
 }
 
-// Puts a fault of a feed where there is room for 150 bytes.
-fn put_feed(line: &mut ShortLine, found: FeedFault)
-    requires { array_vec_len line.old + 150 ≤ 192 }
-    ensures items { line.new.items ≡ line.old.items ++ feed_words found.code found.offset }
-    ensures len { array_vec_len line.new ≤ array_vec_len line.old + 150 }
+// A fault of a feed.
+fn feed_words(found: FeedFault) -> ShortLine
+    ensures { result.items ≡ ended (feed_words found.code found.offset) }
 {
-    put_text(line, front(found.code));
-    put_number(line, found.offset);
-    put_text(line, back(found.code));
-    put_text(line, hint(found.code, found.offset));
+    words(&[
+        Piece::Text(front(found.code)),
+        Piece::Number(found.offset),
+        Piece::Text(back(found.code)),
+        Piece::Text(hint(found.code, found.offset)),
+    ])
 }
 
-// Puts what two headers or batches of one digest are where there is room for 150 bytes.
-fn put_collision(line: &mut ShortLine, id: &Digest32)
-    requires { array_vec_len line.old + 150 ≤ 192 }
-    ensures items { line.new.items ≡ line.old.items ++ collision_words id.now }
-    ensures len { array_vec_len line.new ≤ array_vec_len line.old + 150 }
+// What two headers or batches of one digest are.
+fn collision_words(id: &Digest32) -> ShortLine
+    ensures { result.items ≡ ended (collision_words id.now) }
 {
-    put_text(
-        line,
-        b"two headers have this id, or two batches this digest:",
-    );
-    put_digest(line, id);
+    words(&[
+        Piece::Text(b"two headers have this id, or two batches this digest:"),
+        Piece::Digest(id),
+    ])
 }
 
-// Puts whose twins there are where there is room for 150 bytes.
-fn put_twins(line: &mut ShortLine, round: u32, author: u8)
-    requires { array_vec_len line.old + 150 ≤ 192 }
-    ensures items { line.new.items ≡ line.old.items ++ twins_words round author }
-    ensures len { array_vec_len line.new ≤ array_vec_len line.old + 150 }
+// Whose twins there are.
+fn twins_words(round: u32, author: u8) -> ShortLine
+    ensures { result.items ≡ ended (twins_words round author) }
 {
-    put_text(line, b"member");
-    put_number(line, u64::from(author));
-    put_text(line, b" made two certificates for round");
-    put_number(line, u64::from(round));
-    put_text(line, b"; their ids are in the line above");
+    words(&[
+        Piece::Text(b"member"),
+        Piece::Number(u64::from(author)),
+        Piece::Text(b" made two certificates for round"),
+        Piece::Number(u64::from(round)),
+        Piece::Text(b"; their ids are in the line above"),
+    ])
 }
 
-// Puts why a feed was not replayed where there is room for 150 bytes.
-fn put_replay(line: &mut ShortLine, fault: &Fault)
-    requires { array_vec_len line.old + 150 ≤ 192 }
-    ensures items { line.new.items ≡ line.old.items ++ replay_words fault.now }
-    ensures len { array_vec_len line.new ≤ array_vec_len line.old + 150 }
+// Why a feed was not replayed.
+fn replay_words(fault: &Fault) -> ShortLine
+    ensures { result.items ≡ ended (replay_words fault.now) }
 {
     match fault {
-        Fault::Feed(found) => put_feed(line, *found),
-        Fault::Collision { id } => put_collision(line, id),
-        Fault::Equivocation { round, author, .. } => put_twins(line, *round, *author),
-        Fault::Unfinished { place } => {
-            put_text(line, b"a worker took the transaction at place");
-            put_number(line, u64::from(*place));
-            put_text(line, b" and did not finish it");
-        }
-        Fault::Write { .. } => put_text(line, b"it could not be written"),
-        Fault::Memory => put_text(line, b"memory ran out"),
+        Fault::Feed(found) => feed_words(*found),
+        Fault::Collision { id } => collision_words(id),
+        Fault::Equivocation { round, author, .. } => twins_words(*round, *author),
+        Fault::Unfinished { place } => words(&[
+            Piece::Text(b"a worker took the transaction at place"),
+            Piece::Number(u64::from(*place)),
+            Piece::Text(b" and did not finish it"),
+        ]),
+        Fault::Write { .. } => words(&[Piece::Text(b"it could not be written")]),
+        Fault::Memory => words(&[Piece::Text(b"memory ran out")]),
     }
 }
 
@@ -144,38 +144,42 @@ fn script_words(code: ScriptCode) -> &'static [u8]
     }
 }
 
-// Puts why a text was not answered where there is room for 150 bytes.
-fn put_script(line: &mut ShortLine, fault: &ScriptFault)
-    requires { array_vec_len line.old + 150 ≤ 192 }
-    ensures items { line.new.items ≡ line.old.items ++ text_words fault.now }
-    ensures len { array_vec_len line.new ≤ array_vec_len line.old + 150 }
+// Why a text was not answered.
+fn text_words(fault: &ScriptFault) -> ShortLine
+    ensures { result.items ≡ ended (text_words fault.now) }
 {
     match fault {
-        ScriptFault::Script { line: number, code } => {
-            put_text(line, b"line");
-            put_number(line, *number);
-            put_text(line, script_words(*code));
-        }
-        ScriptFault::Read => put_text(line, b"it could not be opened or read"),
-        ScriptFault::Write { .. } => put_text(line, b"it could not be written"),
-        ScriptFault::Memory => put_text(line, b"memory ran out"),
+        ScriptFault::Script { line, code } => words(&[
+            Piece::Text(b"line"),
+            Piece::Number(*line),
+            Piece::Text(script_words(*code)),
+        ]),
+        ScriptFault::Read => words(&[Piece::Text(b"it could not be opened or read")]),
+        ScriptFault::Write { .. } => words(&[Piece::Text(b"it could not be written")]),
+        ScriptFault::Memory => words(&[Piece::Text(b"memory ran out")]),
     }
 }
 
-// Puts why a list of events was not read where there is room for 150 bytes.
-fn put_unread(line: &mut ShortLine, fault: &LinesFault)
-    requires { array_vec_len line.old + 150 ≤ 192 }
-    ensures items { line.new.items ≡ line.old.items ++ unread_words fault.now }
-    ensures len { array_vec_len line.new ≤ array_vec_len line.old + 150 }
+// What is wrong with a line of a file.
+fn line_words(line: u32, wrong: &[u8]) -> ShortLine
+    requires { length wrong.now ≤ 90 }
+    ensures { result.items ≡ ended (line_words line wrong.now) }
+{
+    words(&[
+        Piece::Text(b"line"),
+        Piece::Number(u64::from(line)),
+        Piece::Text(wrong),
+    ])
+}
+
+// Why a list of events was not read.
+fn unread_words(fault: &LinesFault) -> ShortLine
+    ensures { result.items ≡ ended (unread_words fault.now) }
 {
     match fault {
-        LinesFault::Line { line: number } => {
-            put_text(line, b"line");
-            put_number(line, u64::from(*number));
-            put_text(line, b" is not an event");
-        }
-        LinesFault::Read => put_text(line, b"it could not be opened or read"),
-        LinesFault::Memory => put_text(line, b"memory ran out"),
+        LinesFault::Line { line } => line_words(*line, b" is not an event"),
+        LinesFault::Read => words(&[Piece::Text(b"it could not be opened or read")]),
+        LinesFault::Memory => words(&[Piece::Text(b"memory ran out")]),
     }
 }
 
@@ -193,149 +197,102 @@ fn refused_words(code: Refused) -> &'static [u8]
     }
 }
 
-// Puts why a list of events gives no report where there is room for 150 bytes.
-fn put_list(line: &mut ShortLine, fault: &ListFault)
-    requires { array_vec_len line.old + 150 ≤ 192 }
-    ensures items { line.new.items ≡ line.old.items ++ list_words fault.now }
-    ensures len { array_vec_len line.new ≤ array_vec_len line.old + 150 }
+// Why a list of events gives no report.
+fn list_words(fault: &ListFault) -> ShortLine
+    ensures { result.items ≡ ended (list_words fault.now) }
 {
     match fault {
-        ListFault::Unread(fault) => put_unread(line, fault),
-        ListFault::Refused { line: number, code } => {
-            put_text(line, b"the event in line");
-            put_number(line, u64::from(*number));
-            put_text(line, refused_words(*code));
-        }
-        ListFault::Unfinished { place } => {
-            put_text(line, b"after all events the transaction at place");
-            put_number(line, u64::from(*place));
-            put_text(line, b" is not done");
-        }
+        ListFault::Unread(fault) => unread_words(fault),
+        ListFault::Refused { line, code } => words(&[
+            Piece::Text(b"the event in line"),
+            Piece::Number(u64::from(*line)),
+            Piece::Text(refused_words(*code)),
+        ]),
+        ListFault::Unfinished { place } => words(&[
+            Piece::Text(b"after all events the transaction at place"),
+            Piece::Number(u64::from(*place)),
+            Piece::Text(b" is not done"),
+        ]),
     }
 }
 
-// Puts in which part the setup of the second feed differs where there is room for 100 bytes.
-fn put_setup(line: &mut ShortLine, part: SetupPart)
-    requires { array_vec_len line.old + 100 ≤ 192 }
-    ensures items { line.new.items ≡ line.old.items ++ setup_words part }
-    ensures len { array_vec_len line.new ≤ array_vec_len line.old + 100 }
+// In which part the setup of the second feed differs.
+fn setup_words(part: SetupPart) -> &'static [u8]
+    ensures text { result.now ≡ setup_words part }
+    ensures len { length result.now ≤ 90 }
 {
     match part {
-        SetupPart::Absent => put_text(line, b"not both feeds have a committee and a genesis"),
-        SetupPart::Version => put_text(line, b"its version is not that of the first feed"),
-        SetupPart::Committee => put_text(
-            line,
-            b"its committee is not that of the first feed: the keys, the weights or their number",
-        ),
-        SetupPart::Accounts => put_text(
-            line,
-            b"its opening accounts are not those of the first feed",
-        ),
+        SetupPart::Absent => b"not both feeds have a committee and a genesis",
+        SetupPart::Version => b"its version is not that of the first feed",
+        SetupPart::Committee => {
+            b"its committee is not that of the first feed: the keys, the weights or their number"
+        }
+        SetupPart::Accounts => b"its opening accounts are not those of the first feed",
     }
 }
 
-// Puts how two feeds differ where there is room for 180 bytes.
-fn put_differ(line: &mut ShortLine, differ: &Differ)
-    requires { array_vec_len line.old + 180 ≤ 192 }
-    ensures items { line.new.items ≡ line.old.items ++ differ_words differ.now }
-    ensures len { array_vec_len line.new ≤ array_vec_len line.old + 180 }
+// How two feeds differ.
+fn differ_words(differ: &Differ) -> ShortLine
+    ensures { result.items ≡ ended (differ_words differ.now) }
 {
     match differ {
-        Differ::Setup { part } => put_setup(line, *part),
-        Differ::Collision { id } => put_collision(line, id),
-        Differ::Twins { round, author, .. } => put_twins(line, *round, *author),
-        Differ::Memory => put_text(line, b"memory ran out"),
+        Differ::Setup { part } => words(&[Piece::Text(setup_words(*part))]),
+        Differ::Collision { id } => collision_words(id),
+        Differ::Twins { round, author, .. } => twins_words(*round, *author),
+        Differ::Memory => words(&[Piece::Text(b"memory ran out")]),
     }
 }
 
-// Puts why two feeds do not agree where there is room for 180 bytes.
-fn put_compare(line: &mut ShortLine, stop: &CompareStop)
-    requires { array_vec_len line.old + 180 ≤ 192 }
-    ensures items { line.new.items ≡ line.old.items ++ compare_words stop.now }
-    ensures len { array_vec_len line.new ≤ array_vec_len line.old + 180 }
+// Why two feeds do not agree.
+fn compare_words(stop: &CompareStop) -> ShortLine
+    ensures { result.items ≡ ended (compare_words stop.now) }
 {
     match stop {
-        CompareStop::First(fault) | CompareStop::Second(fault) => put_replay(line, fault),
-        CompareStop::Differ(differ) => put_differ(line, differ),
+        CompareStop::First(fault) | CompareStop::Second(fault) => replay_words(fault),
+        CompareStop::Differ(differ) => differ_words(differ),
     }
 }
 
-/// Puts whose tag of a certificate is wrong where there is room for 110 bytes.
-pub(crate) fn put_wrong_tag(line: &mut ShortLine, wrong: &WrongTag)
-    requires { array_vec_len line.old + 110 ≤ 192 }
-    ensures items { line.new.items ≡ line.old.items ++ tag_words wrong.now }
-    ensures len { array_vec_len line.new ≤ array_vec_len line.old + 110 }
-{
-    put_text(line, b"of the certificate in frame");
-    put_number(line, wrong.frame);
-    put_text(line, b" the tag of signer");
-    put_number(line, u64::from(wrong.signer));
-    put_text(line, b" is not that of its key");
-}
-
-/// Puts at which missing batch an order stops where there is room for 110 bytes.
-pub(crate) fn put_gap(line: &mut ShortLine, digest: &Digest32)
-    requires { array_vec_len line.old + 110 ≤ 192 }
-    ensures items { line.new.items ≡ line.old.items ++ gap_words digest.now }
-    ensures len { array_vec_len line.new ≤ array_vec_len line.old + 110 }
-{
-    put_text(line, b"the order stops at the missing batch");
-    put_digest(line, digest);
-}
-
-// Puts the same after other words, where there is one, where there is room for 112 bytes.
-fn put_and_gap(line: &mut ShortLine, missing: &Option<Digest32>)
-    requires { array_vec_len line.old + 112 ≤ 192 }
-    ensures items { line.new.items ≡ line.old.items ++ and_gap missing.now }
-    ensures len { array_vec_len line.new ≤ array_vec_len line.old + 112 }
+// What a feed has not, and at which missing batch its order stops, where there is one.
+fn absent_words<'a>(what: &'a [u8], number: u64, missing: &'a Option<Digest32>) -> ShortLine
+    requires { length what.now ≤ 40 }
+    ensures { result.items ≡ ended (absent_words what.now number missing.now) }
 {
     match missing {
-        Some(digest) => {
-            put_text(line, b"; ");
-            put_gap(line, digest);
-        }
-        None => {}
+        Some(digest) => words(&[
+            Piece::Text(what),
+            Piece::Number(number),
+            Piece::Text(b"; the order stops at the missing batch"),
+            Piece::Digest(digest),
+        ]),
+        None => words(&[Piece::Text(what), Piece::Number(number)]),
     }
 }
 
 /// A fault in words, after a colon and up to the end of its line.
 pub(crate) fn in_words(fault: &JobFault) -> ShortLine
-    ensures { result.items ≡ codes ": " ++ words_of fault.now ++ codes "\n" }
+    ensures { result.items ≡ ended (words_of fault.now) }
 {
-    let mut line = ShortLine::new();
-    put_text(&mut line, b": ");
     match fault {
-        JobFault::Replay(fault) => put_replay(&mut line, fault),
-        JobFault::Text(fault) => put_script(&mut line, fault),
-        JobFault::Events(fault) => put_list(&mut line, fault),
-        JobFault::Accounts { line: number } => {
-            put_text(&mut line, b"line");
-            put_number(&mut line, u64::from(*number));
-            put_text(
-                &mut line,
-                b" is not the id of an account, or ends a list that is too long",
-            );
-        }
-        JobFault::Links { line: number } => {
-            put_text(&mut line, b"line");
-            put_number(&mut line, u64::from(*number));
-            put_text(
-                &mut line,
-                b" is not a line of `link`, or ends a text that is too long",
-            );
-        }
-        JobFault::Compared(stop) => put_compare(&mut line, stop),
+        JobFault::Replay(fault) => replay_words(fault),
+        JobFault::Text(fault) => text_words(fault),
+        JobFault::Events(fault) => list_words(fault),
+        JobFault::Accounts { line } => line_words(
+            *line,
+            b" is not the id of an account, or ends a list that is too long",
+        ),
+        JobFault::Links { line } => line_words(
+            *line,
+            b" is not a line of `link`, or ends a text that is too long",
+        ),
+        JobFault::Compared(stop) => compare_words(stop),
         JobFault::AbsentAccount { id, missing } => {
-            put_text(&mut line, b"there is no account");
-            put_number(&mut line, *id);
-            put_and_gap(&mut line, missing);
+            absent_words(b"there is no account", *id, missing)
         }
-        JobFault::AbsentPlace { place, missing } => {
-            put_text(&mut line, b"there is no transaction at place");
-            put_number(&mut line, u64::from(*place));
-            put_and_gap(&mut line, missing);
-        }
+        JobFault::AbsentPlace { place, missing } => absent_words(
+            b"there is no transaction at place",
+            u64::from(*place),
+            missing,
+        ),
     }
-    put_text(&mut line, b"\n");
-    line
 }

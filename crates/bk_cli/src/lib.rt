@@ -40,7 +40,7 @@ pub use exit::Exit;
 pub use fault_line::report;
 pub use job::{Job, is_input};
 pub use job_fault::JobFault;
-pub use line::{ShortLine, put_number, put_text};
+pub use line::{Piece, ShortLine, short_line};
 pub use links::Links;
 pub use list_fault::ListFault;
 pub use notes::Notes;

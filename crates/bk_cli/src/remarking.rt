@@ -3,14 +3,14 @@
 ghost use Rattle.std.specs.Prelude.{◌≡◌, ◌++◌, codes, OnOk, IfErr};
 ghost use Rattle.bk_frames.specs.Device.{CanBeUsed};
 ghost use Rattle.bk_frames.specs.Writing.{Writes};
-ghost use Rattle.bk_cli.specs.Explanations.{gap_note, gap_words, remarks_told, tag_note, tag_words};
+ghost use Rattle.bk_cli.specs.Explanations.{ended, gap_note, gap_words, remarks_told, tag_note, tag_words};
 ghost use Rattle.bk_cli.specs.FaultLines.{Reports, StopsReport};
 ghost use Rattle.bk_cli.specs.Files.{shown};
 
 use crate::about::FaultSubject;
-use crate::explain::{put_gap, put_wrong_tag};
+use crate::explain::words;
 use crate::job::Job;
-use crate::line::{ShortLine, put_text};
+use crate::line::{Piece, ShortLine};
 use crate::remarks::Remarks;
 use crate::shown::push_shown;
 use bk_digest::Digest32;
@@ -19,24 +19,25 @@ use bk_results::WrongTag;
 
 // What comes after the name of a feed whose order stops at a missing batch.
 fn gap_end(digest: &Digest32) -> ShortLine
-    ensures { result.items ≡ codes ": " ++ gap_words digest.now ++ codes "\n" }
+    ensures { result.items ≡ ended (gap_words digest.now) }
 {
-    let mut line = ShortLine::new();
-    put_text(&mut line, b": ");
-    put_gap(&mut line, digest);
-    put_text(&mut line, b"\n");
-    line
+    words(&[
+        Piece::Text(b"the order stops at the missing batch"),
+        Piece::Digest(digest),
+    ])
 }
 
 // What comes after the name of a feed that has a wrong tag.
 fn tag_end(wrong: &WrongTag) -> ShortLine
-    ensures { result.items ≡ codes ": " ++ tag_words wrong.now ++ codes "\n" }
+    ensures { result.items ≡ ended (tag_words wrong.now) }
 {
-    let mut line = ShortLine::new();
-    put_text(&mut line, b": ");
-    put_wrong_tag(&mut line, wrong);
-    put_text(&mut line, b"\n");
-    line
+    words(&[
+        Piece::Text(b"of the certificate in frame"),
+        Piece::Number(wrong.frame),
+        Piece::Text(b" the tag of signer"),
+        Piece::Number(u64::from(wrong.signer)),
+        Piece::Text(b" is not that of its key"),
+    ])
 }
 
 // Writes the line of a feed of this name with this end.

@@ -1,13 +1,14 @@
 //! How a job ends with `--strict`.
 
-ghost use Rattle.std.specs.Prelude.{◌≡◌, ◌++◌, codes, true};
+ghost use Rattle.std.specs.Prelude.{◌≡◌, ◌<◌, ◌++◌, codes, true};
+ghost use Rattle.std.specs.List.{sum_by};
 ghost use Rattle.bk_frames.specs.Device.{CanBeUsed};
 ghost use Rattle.bk_cli.specs.FaultLines.{Reports};
+ghost use Rattle.bk_cli.specs.Pieces.{room, said};
 ghost use Rattle.bk_cli.specs.Strictness.{IsJudged, flaw_line, is_judged};
 
 use crate::exit::Exit;
-use crate::fault_line::put_digest;
-use crate::line::{ShortLine, put_number, put_text};
+use crate::line::{Piece, ShortLine, short_line};
 use bk_frames::{Sink, push_all};
 use bk_results::Flaw;
 
@@ -23,29 +24,24 @@ impl Exit {
     }
 }
 
+// The line of these pieces.
+fn strict(pieces: &[Piece<'_>]) -> ShortLine
+    requires { sum_by room pieces.now < 184 }
+    ensures { result.items ≡ codes "strict: " ++ said pieces.now ++ codes "\n" }
+{
+    short_line(b"strict: ", pieces)
+}
+
 // The line of a flaw.
 fn line_of(flaw: &Flaw) -> ShortLine
     ensures { result.items ≡ flaw_line flaw.now }
 {
-    let mut line = ShortLine::new();
-    put_text(&mut line, b"strict: ");
     match flaw {
-        Flaw::Missing { digest } => {
-            put_text(&mut line, b"missing");
-            put_digest(&mut line, digest);
-        }
-        Flaw::Rejected { frames } => {
-            put_text(&mut line, b"rejected");
-            put_number(&mut line, *frames);
-        }
-        Flaw::Waiting { certs } => {
-            put_text(&mut line, b"waiting");
-            put_number(&mut line, *certs);
-        }
-        Flaw::NothingOrdered => put_text(&mut line, b"nothing ordered"),
+        Flaw::Missing { digest } => strict(&[Piece::Text(b"missing"), Piece::Digest(digest)]),
+        Flaw::Rejected { frames } => strict(&[Piece::Text(b"rejected"), Piece::Number(*frames)]),
+        Flaw::Waiting { certs } => strict(&[Piece::Text(b"waiting"), Piece::Number(*certs)]),
+        Flaw::NothingOrdered => strict(&[Piece::Text(b"nothing ordered")]),
     }
-    put_text(&mut line, b"\n");
-    line
 }
 
 // Reports a flaw.

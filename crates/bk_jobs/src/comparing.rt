@@ -8,7 +8,7 @@ ghost use Rattle.bk_jobs.specs.Sources.{job_devices};
 
 use crate::job_end::{JobEnd, Terms};
 use crate::machine::all_workers;
-use bk_cli::{Exit, JobFault, Remarks, ShortLine, put_number, put_text};
+use bk_cli::{Exit, JobFault, Piece, Remarks, ShortLine, short_line};
 use bk_compare::{Compared, compare_with_gaps};
 use bk_frames::{Sink, Source, push_all};
 use bk_pool::Gate;
@@ -20,12 +20,14 @@ use std::thread::Threads;
 fn agree_line(agreed: Agreed) -> ShortLine
     ensures { result.items ≡ agree_text agreed }
 {
-    let mut line = ShortLine::new();
-    put_text(&mut line, b"agree");
-    put_number(&mut line, agreed.certs as u64);
-    put_number(&mut line, agreed.places as u64);
-    put_text(&mut line, b"\n");
-    line
+    short_line(
+        b"",
+        &[
+            Piece::Text(b"agree"),
+            Piece::Number(agreed.certs as u64),
+            Piece::Number(agreed.places as u64),
+        ],
+    )
 }
 
 // The first flaw, else the second.
