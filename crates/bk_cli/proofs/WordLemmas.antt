@@ -8,17 +8,19 @@ use Rattle.std.specs.Box.{box_value}
 use Rattle.clap.specs.Simple.{Shape, built, entered, label_of, rows_at, argument_words, names_of, subcommand_rows}
 use Rattle.clap.specs.Walk.{answers_to, stop_after}
 use Rattle.clap.specs.Matches.{subcommand_name_of}
-use Rattle.clap.specs.Words.{App, HasMatchesOf, Row, Text, one_of, subcommand_of, subcommand_rows_of}
+use Rattle.clap.specs.Words.{App, HasMatchesOf, Row, Text, subcommand_of, subcommand_rows_of}
 use Rattle.clap.specs.declared.parser.matches.ArgMatches.{ArgMatches}
 use Rattle.clap.specs.declared.parser.matches.SubCommand.{SubCommand}
 use Rattle.clap.specs.declared.parser.matches.ArgMatches.TheViews.{out-ArgMatches, out-SubCommand}
-use Rattle.bk_cli.specs.CommandLine.{all_words, AreNotesIn, AreNotesOf, Asks, IsOn, IsOneOf, IsStrictOf, IsJobOf, NamesNoJob}
+use Rattle.clap.specs.Values.{kind_of}
+use Rattle.clap.specs.declared.error.Error.{Error}
+use Rattle.clap.specs.declared.error.kind.ErrorKind.TheVariants as kind
+use Rattle.bk_cli.specs.CommandLine.{IsOfValues, IsOneOf, IsRefusal, all_words}
 use Rattle.bk_cli.specs.Commands.{command_line, word_of}
 use Rattle.bk_cli.specs.declared.verb.TheConstants.{ALL}
 use Rattle.bk_cli.specs.declared.verb.Verb.{Verb}
 use Rattle.bk_cli.specs.Files.{reads_input_twice}
 use Rattle.bk_cli.specs.declared.job.Job.{Job}
-use Rattle.bk_cli.specs.declared.notes.Notes.{Notes}
 
 -- ---- a parse and its rows
 
@@ -45,29 +47,15 @@ pub what_is_found : (m : ArgMatches) (words : List Text) (name : Text) (rows : L
 what_is_found m words name rows found named valued =
     sym found ∙ both_parts name rows (subcommand_rows_of m) (named ∙ sym (name_of_rows m)) valued
 
--- a job that a command asks for is the job of the words
-pub job_at_found : (found : Option (Text × List Row)) (name word : Text) (rows : List Row) (j : Job) → found ≡ Some (name, rows) → name ≡ word → Asks (word, rows) (Some j)
-    → IsJobOf found j
-job_at_found found name word rows j is same h =
-    let is_word : found ≡ Some (word, rows) = is ∙ ap (λ (t : Text). Some (t, rows)) same in
-    subst (λ (f : Option (Text × List Row)). IsJobOf f j) (sym is_word) h
+-- by the word of its command
+pub found_by_word : (o : Option (Text × List Row)) (name word : Text) (rows : List Row) → o ≡ Some (name, rows) → name ≡ word → o ≡ Some (word, rows)
+found_by_word o name word rows is same = is ∙ ap (λ (t : Text). Some (t, rows)) same
 
--- the notes at these rows are those of the words
-pub notes_at_found : (found : Option (Text × List Row)) (name : Text) (rows : List Row) (n : Notes) → found ≡ Some (name, rows) → AreNotesIn rows n
-    → AreNotesOf found n
-notes_at_found found name rows n is h = subst (λ (f : Option (Text × List Row)). AreNotesOf f n) (sym is) h
-
--- and so is what they say of a feed that falls short
-pub strict_at_found : (found : Option (Text × List Row)) (name : Text) (rows : List Row) (strict : Bool) → found ≡ Some (name, rows)
-    → IsOn (one_of (codes "strict") rows) strict → IsStrictOf found strict
-strict_at_found found name rows strict is h = subst (λ (f : Option (Text × List Row)). IsStrictOf f strict) (sym is) h
-
--- and where it asks for none, the words name none
-pub no_job_at : (found : Option (Text × List Row)) (name word : Text) (rows : List Row) → found ≡ Some (name, rows) → name ≡ word → Asks (word, rows) None
-    → NamesNoJob found
-no_job_at found name word rows is same h =
-    let is_word : found ≡ Some (word, rows) = is ∙ ap (λ (t : Text). Some (t, rows)) same in
-    subst NamesNoJob (sym is_word) h
+-- an error of these values is a refusal of the words
+pub refused_at : (words : List Text) (e : Error) (here : Option (Text × List Row)) → subcommand_of command_line words ≡ here
+    → (kind_of e ≡ kind.OutOfMemory) ⊎ IsOfValues e here → IsRefusal words e
+refused_at words e here is (inl memory) = record { named = inl (inl memory); taken = λ _. inl memory }
+refused_at words e here is (inr values) = let of = subst (IsOfValues e) (sym is) values in record { named = inr of; taken = λ _. inr of }
 
 -- the command line is one of which the matches are defined
 pub named_by_words : (a : App) (words : List Text) (m : ArgMatches) → a ≡ command_line → HasMatchesOf a words m

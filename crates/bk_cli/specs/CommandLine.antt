@@ -6,7 +6,7 @@ use Rattle.hex.specs.Hex.{encode_lower}
 use Rattle.clap.specs.Values.{kind_of}
 use Rattle.clap.specs.declared.error.Error.{Error}
 use Rattle.clap.specs.declared.error.kind.ErrorKind.TheVariants as kind
-use Rattle.clap.specs.Words.{Row, Text, first_of, one_of}
+use Rattle.clap.specs.Words.{HasKind, Row, Text, fault_of, first_of, one_of, subcommand_of, takes}
 use Rattle.bk_digest.specs.Digest.{IsHexDigest}
 use Rattle.bk_results.specs.declared.query.Query.TheVariants as query
 use Rattle.bk_cli.specs.Files.{names_input, reads_input_twice}
@@ -16,6 +16,7 @@ use Rattle.bk_cli.specs.declared.args.Args.{Args}
 use Rattle.bk_cli.specs.declared.job.Job.{Job}
 use Rattle.bk_cli.specs.declared.job.Job.TheVariants as job
 use Rattle.bk_cli.specs.declared.notes.Notes.{Notes}
+use Rattle.bk_cli.specs.declared.parsing.Line.{Line}
 use Rattle.bk_cli.specs.declared.view.Diagnosis.TheVariants as sought
 use Rattle.bk_cli.specs.declared.view.Table.{Table}
 use Rattle.bk_cli.specs.declared.view.Table.TheVariants as table
@@ -24,7 +25,7 @@ use Rattle.bk_cli.specs.declared.view.View.TheVariants as view
 use Rattle.bk_cli.specs.declared.verb.TheConstants.{ALL}
 use Rattle.bk_cli.specs.declared.verb.Verb.{Verb}
 use Rattle.bk_cli.specs.declared.verb.Verb.TheVariants as verb
-use Rattle.bk_cli.specs.Commands.{word_of}
+use Rattle.bk_cli.specs.Commands.{command_line, word_of}
 
 -- ---- the values of arguments
 
@@ -192,6 +193,25 @@ NamesInputTwice found = (j : Job) × IsJobOf found j × (reads_input_twice j ≡
 -- the error is that of words that name no job, or of standard input that is named twice, and the words have that fault
 abbrev pub IsOfValues : Error → Option (Text × List Row) → Type 0
 IsOfValues e found = (kind_of e ≡ kind.ValueValidation) × (NamesNoJob found ⊎ NamesInputTwice found)
+
+-- ---- what the words of a command line are read as
+
+-- the line is what was found in the words: the job, which reads standard input once at most, and what else is told
+pub record IsLineFor (found : Option (Text × List Row)) (l : Line) : Type 0 where
+  pub job : IsJobOf found l.job
+  pub once : reads_input_twice l.job ≡ false
+  pub notes : AreNotesOf found l.notes
+  pub strict : IsStrictOf found l.strict
+
+-- the words have no fault, and this is their line
+pub record IsLineOf (words : List Text) (l : Line) : Type 0 where
+  pub whole : fault_of command_line words ≡ []
+  pub asked : IsLineFor (subcommand_of command_line words) l
+
+-- the words have the fault of this error; where the parser takes them, it is one of their values, or memory ran out
+pub record IsRefusal (words : List Text) (e : Error) : Type 0 where
+  pub named : HasKind (fault_of command_line words) e ⊎ IsOfValues e (subcommand_of command_line words)
+  pub taken : takes command_line words ≡ true → (kind_of e ≡ kind.OutOfMemory) ⊎ IsOfValues e (subcommand_of command_line words)
 
 -- ---- the words of the commands
 

@@ -8,6 +8,7 @@ ghost use Rattle.bk_cli.specs.Explanations.{replay_words, script_words, setup_wo
 ghost use Rattle.bk_cli.specs.Pieces.{room, said};
 
 use crate::job_fault::JobFault;
+use crate::line::Piece::{Digest, Number, Text};
 use crate::line::{Piece, ShortLine, short_line};
 use crate::list_fault::ListFault;
 use bk_base::Refused;
@@ -74,10 +75,10 @@ fn feed_words(found: FeedFault) -> ShortLine
     ensures { result.items ≡ ended (feed_words found.code found.offset) }
 {
     words(&[
-        Piece::Text(front(found.code)),
-        Piece::Number(found.offset),
-        Piece::Text(back(found.code)),
-        Piece::Text(hint(found.code, found.offset)),
+        Text(front(found.code)),
+        Number(found.offset),
+        Text(back(found.code)),
+        Text(hint(found.code, found.offset)),
     ])
 }
 
@@ -86,8 +87,8 @@ fn collision_words(id: &Digest32) -> ShortLine
     ensures { result.items ≡ ended (collision_words id.now) }
 {
     words(&[
-        Piece::Text(b"two headers have this id, or two batches this digest:"),
-        Piece::Digest(id),
+        Text(b"two headers have this id, or two batches this digest:"),
+        Digest(id),
     ])
 }
 
@@ -96,11 +97,11 @@ fn twins_words(round: u32, author: u8) -> ShortLine
     ensures { result.items ≡ ended (twins_words round author) }
 {
     words(&[
-        Piece::Text(b"member"),
-        Piece::Number(u64::from(author)),
-        Piece::Text(b" made two certificates for round"),
-        Piece::Number(u64::from(round)),
-        Piece::Text(b"; their ids are in the line above"),
+        Text(b"member"),
+        Number(u64::from(author)),
+        Text(b" made two certificates for round"),
+        Number(u64::from(round)),
+        Text(b"; their ids are in the line above"),
     ])
 }
 
@@ -113,12 +114,12 @@ fn replay_words(fault: &Fault) -> ShortLine
         Fault::Collision { id } => collision_words(id),
         Fault::Equivocation { round, author, .. } => twins_words(*round, *author),
         Fault::Unfinished { place } => words(&[
-            Piece::Text(b"a worker took the transaction at place"),
-            Piece::Number(u64::from(*place)),
-            Piece::Text(b" and did not finish it"),
+            Text(b"a worker took the transaction at place"),
+            Number(u64::from(*place)),
+            Text(b" and did not finish it"),
         ]),
-        Fault::Write { .. } => words(&[Piece::Text(b"it could not be written")]),
-        Fault::Memory => words(&[Piece::Text(b"memory ran out")]),
+        Fault::Write { .. } => words(&[Text(b"it could not be written")]),
+        Fault::Memory => words(&[Text(b"memory ran out")]),
     }
 }
 
@@ -150,13 +151,13 @@ fn text_words(fault: &ScriptFault) -> ShortLine
 {
     match fault {
         ScriptFault::Script { line, code } => words(&[
-            Piece::Text(b"line"),
-            Piece::Number(*line),
-            Piece::Text(script_words(*code)),
+            Text(b"line"),
+            Number(*line),
+            Text(script_words(*code)),
         ]),
-        ScriptFault::Read => words(&[Piece::Text(b"it could not be opened or read")]),
-        ScriptFault::Write { .. } => words(&[Piece::Text(b"it could not be written")]),
-        ScriptFault::Memory => words(&[Piece::Text(b"memory ran out")]),
+        ScriptFault::Read => words(&[Text(b"it could not be opened or read")]),
+        ScriptFault::Write { .. } => words(&[Text(b"it could not be written")]),
+        ScriptFault::Memory => words(&[Text(b"memory ran out")]),
     }
 }
 
@@ -165,11 +166,7 @@ fn line_words(line: u32, wrong: &[u8]) -> ShortLine
     requires { length wrong.now ≤ 90 }
     ensures { result.items ≡ ended (line_words line wrong.now) }
 {
-    words(&[
-        Piece::Text(b"line"),
-        Piece::Number(u64::from(line)),
-        Piece::Text(wrong),
-    ])
+    words(&[Text(b"line"), Number(u64::from(line)), Text(wrong)])
 }
 
 // Why a list of events was not read.
@@ -178,8 +175,8 @@ fn unread_words(fault: &LinesFault) -> ShortLine
 {
     match fault {
         LinesFault::Line { line } => line_words(*line, b" is not an event"),
-        LinesFault::Read => words(&[Piece::Text(b"it could not be opened or read")]),
-        LinesFault::Memory => words(&[Piece::Text(b"memory ran out")]),
+        LinesFault::Read => words(&[Text(b"it could not be opened or read")]),
+        LinesFault::Memory => words(&[Text(b"memory ran out")]),
     }
 }
 
@@ -204,14 +201,14 @@ fn list_words(fault: &ListFault) -> ShortLine
     match fault {
         ListFault::Unread(fault) => unread_words(fault),
         ListFault::Refused { line, code } => words(&[
-            Piece::Text(b"the event in line"),
-            Piece::Number(u64::from(*line)),
-            Piece::Text(refused_words(*code)),
+            Text(b"the event in line"),
+            Number(u64::from(*line)),
+            Text(refused_words(*code)),
         ]),
         ListFault::Unfinished { place } => words(&[
-            Piece::Text(b"after all events the transaction at place"),
-            Piece::Number(u64::from(*place)),
-            Piece::Text(b" is not done"),
+            Text(b"after all events the transaction at place"),
+            Number(u64::from(*place)),
+            Text(b" is not done"),
         ]),
     }
 }
@@ -236,10 +233,10 @@ fn differ_words(differ: &Differ) -> ShortLine
     ensures { result.items ≡ ended (differ_words differ.now) }
 {
     match differ {
-        Differ::Setup { part } => words(&[Piece::Text(setup_words(*part))]),
+        Differ::Setup { part } => words(&[Text(setup_words(*part))]),
         Differ::Collision { id } => collision_words(id),
         Differ::Twins { round, author, .. } => twins_words(*round, *author),
-        Differ::Memory => words(&[Piece::Text(b"memory ran out")]),
+        Differ::Memory => words(&[Text(b"memory ran out")]),
     }
 }
 
@@ -260,12 +257,12 @@ fn absent_words<'a>(what: &'a [u8], number: u64, missing: &'a Option<Digest32>) 
 {
     match missing {
         Some(digest) => words(&[
-            Piece::Text(what),
-            Piece::Number(number),
-            Piece::Text(b"; the order stops at the missing batch"),
-            Piece::Digest(digest),
+            Text(what),
+            Number(number),
+            Text(b"; the order stops at the missing batch"),
+            Digest(digest),
         ]),
-        None => words(&[Piece::Text(what), Piece::Number(number)]),
+        None => words(&[Text(what), Number(number)]),
     }
 }
 
@@ -286,9 +283,11 @@ pub(crate) fn in_words(fault: &JobFault) -> ShortLine
             b" is not a line of `link`, or ends a text that is too long",
         ),
         JobFault::Compared(stop) => compare_words(stop),
-        JobFault::AbsentAccount { id, missing } => {
-            absent_words(b"there is no account", *id, missing)
-        }
+        JobFault::AbsentAccount { id, missing } => absent_words(
+            b"there is no account",
+            *id,
+            missing,
+        ),
         JobFault::AbsentPlace { place, missing } => absent_words(
             b"there is no transaction at place",
             u64::from(*place),

@@ -8,6 +8,7 @@ ghost use Rattle.bk_cli.specs.FaultLines.{replay_text, script_text, twins_text, 
 ghost use Rattle.bk_cli.specs.Pieces.{room, said};
 
 use crate::job_fault::JobFault;
+use crate::line::Piece::{Digest, Number, Text};
 use crate::line::{Piece, ShortLine, short_line};
 use crate::list_fault::ListFault;
 use bk_digest::Digest32;
@@ -29,11 +30,11 @@ fn twins_line<'a>(place: (u32, u8), first: &'a Digest32, second: &'a Digest32) -
 {
     let (round, author) = place;
     line(&[
-        Piece::Text(b"equivocation"),
-        Piece::Number(u64::from(round)),
-        Piece::Number(u64::from(author)),
-        Piece::Digest(first),
-        Piece::Digest(second),
+        Text(b"equivocation"),
+        Number(u64::from(round)),
+        Number(u64::from(author)),
+        Digest(first),
+        Digest(second),
     ])
 }
 
@@ -43,23 +44,21 @@ fn replay_line(fault: &Fault) -> ShortLine
 {
     match fault {
         Fault::Feed(found) => line(&[
-            Piece::Text(b"feed fault"),
-            Piece::Number(u64::from(found.code.number())),
-            Piece::Text(b" at"),
-            Piece::Number(found.offset),
+            Text(b"feed fault"),
+            Number(u64::from(found.code.number())),
+            Text(b" at"),
+            Number(found.offset),
         ]),
-        Fault::Collision { id } => line(&[Piece::Text(b"collision"), Piece::Digest(id)]),
+        Fault::Collision { id } => line(&[Text(b"collision"), Digest(id)]),
         Fault::Equivocation {
             round,
             author,
             first,
             second,
         } => twins_line((*round, *author), first, second),
-        Fault::Unfinished { place } => {
-            line(&[Piece::Text(b"unfinished"), Piece::Number(u64::from(*place))])
-        }
-        Fault::Write { .. } => line(&[Piece::Text(b"write failed")]),
-        Fault::Memory => line(&[Piece::Text(b"memory")]),
+        Fault::Unfinished { place } => line(&[Text(b"unfinished"), Number(u64::from(*place))]),
+        Fault::Write { .. } => line(&[Text(b"write failed")]),
+        Fault::Memory => line(&[Text(b"memory")]),
     }
 }
 
@@ -69,14 +68,14 @@ fn script_line(fault: &ScriptFault) -> ShortLine
 {
     match fault {
         ScriptFault::Script { line: number, code } => line(&[
-            Piece::Text(b"script fault"),
-            Piece::Number(u64::from(code.number())),
-            Piece::Text(b" at line"),
-            Piece::Number(*number),
+            Text(b"script fault"),
+            Number(u64::from(code.number())),
+            Text(b" at line"),
+            Number(*number),
         ]),
-        ScriptFault::Read => line(&[Piece::Text(b"read failed")]),
-        ScriptFault::Write { .. } => line(&[Piece::Text(b"write failed")]),
-        ScriptFault::Memory => line(&[Piece::Text(b"memory")]),
+        ScriptFault::Read => line(&[Text(b"read failed")]),
+        ScriptFault::Write { .. } => line(&[Text(b"write failed")]),
+        ScriptFault::Memory => line(&[Text(b"memory")]),
     }
 }
 
@@ -86,11 +85,11 @@ fn unread_line(fault: &LinesFault) -> ShortLine
 {
     match fault {
         LinesFault::Line { line: number } => line(&[
-            Piece::Text(b"events fault at line"),
-            Piece::Number(u64::from(*number)),
+            Text(b"events fault at line"),
+            Number(u64::from(*number)),
         ]),
-        LinesFault::Read => line(&[Piece::Text(b"read failed")]),
-        LinesFault::Memory => line(&[Piece::Text(b"memory")]),
+        LinesFault::Read => line(&[Text(b"read failed")]),
+        LinesFault::Memory => line(&[Text(b"memory")]),
     }
 }
 
@@ -101,14 +100,12 @@ fn list_line(fault: &ListFault) -> ShortLine
     match fault {
         ListFault::Unread(fault) => unread_line(fault),
         ListFault::Refused { line: number, code } => line(&[
-            Piece::Text(b"event"),
-            Piece::Number(u64::from(*number)),
-            Piece::Text(b" refused"),
-            Piece::Number(u64::from(code.code())),
+            Text(b"event"),
+            Number(u64::from(*number)),
+            Text(b" refused"),
+            Number(u64::from(code.code())),
         ]),
-        ListFault::Unfinished { place } => {
-            line(&[Piece::Text(b"unfinished"), Piece::Number(u64::from(*place))])
-        }
+        ListFault::Unfinished { place } => line(&[Text(b"unfinished"), Number(u64::from(*place))]),
     }
 }
 
@@ -117,15 +114,15 @@ fn differ_line(differ: &Differ) -> ShortLine
     ensures { result.items ≡ differ_text differ.now ++ codes "\n" }
 {
     match differ {
-        Differ::Setup { .. } => line(&[Piece::Text(b"differ setup")]),
-        Differ::Collision { id } => line(&[Piece::Text(b"collision"), Piece::Digest(id)]),
+        Differ::Setup { .. } => line(&[Text(b"differ setup")]),
+        Differ::Collision { id } => line(&[Text(b"collision"), Digest(id)]),
         Differ::Twins {
             round,
             author,
             first,
             second,
         } => twins_line((*round, *author), first, second),
-        Differ::Memory => line(&[Piece::Text(b"memory")]),
+        Differ::Memory => line(&[Text(b"memory")]),
     }
 }
 
@@ -148,23 +145,19 @@ pub(crate) fn fault_line(fault: &JobFault) -> ShortLine
         JobFault::Text(fault) => script_line(fault),
         JobFault::Events(fault) => list_line(fault),
         JobFault::Accounts { line: number } => line(&[
-            Piece::Text(b"accounts fault at line"),
-            Piece::Number(u64::from(*number)),
+            Text(b"accounts fault at line"),
+            Number(u64::from(*number)),
         ]),
         JobFault::Links { line: number } => line(&[
-            Piece::Text(b"links fault at line"),
-            Piece::Number(u64::from(*number)),
+            Text(b"links fault at line"),
+            Number(u64::from(*number)),
         ]),
         JobFault::Compared(stop) => compare_line(stop),
-        JobFault::AbsentAccount { id, .. } => {
-            line(&[Piece::Text(b"absent account"), Piece::Number(*id)])
-        }
-        JobFault::AbsentPlace { place, .. } => {
-            line(&[
-                Piece::Text(b"absent place"),
-                Piece::Number(u64::from(*place)),
-            ])
-        }
+        JobFault::AbsentAccount { id, .. } => line(&[Text(b"absent account"), Number(*id)]),
+        JobFault::AbsentPlace { place, .. } => line(&[
+            Text(b"absent place"),
+            Number(u64::from(*place)),
+        ]),
     }
 }
 

@@ -1,11 +1,10 @@
 //! From the words of a command line to a job.
 
-ghost use Rattle.std.specs.Prelude.{◌≡◌, ◌⊎◌, true, false, [], map, IfOk, IfErr};
-ghost use Rattle.clap.specs.Kinds.{FailsBy, HasKind};
-ghost use Rattle.clap.specs.Words.{fault_of, has_subcommand, kind_of, subcommand_of, subcommand_rows_of, takes};
-ghost use Rattle.bk_cli.specs.CommandLine.{AreNotesOf, IsJobOf, IsOfValues, IsStrictOf};
-ghost use Rattle.bk_cli.specs.Commands.{command_line};
-ghost use Rattle.bk_cli.specs.Files.{reads_input_twice};
+ghost use Rattle.std.specs.Prelude.{◌≡◌, ◌⊎◌, true, map, IfOk, IfErr, Some};
+ghost use Rattle.clap.specs.Kinds.{FailsBy};
+ghost use Rattle.clap.specs.Words.{fault_of, found_of, has_subcommand, kind_of, rows_of, subcommand_of, subcommand_rows_of, takes};
+ghost use Rattle.bk_cli.specs.CommandLine.{IsLineFor, IsLineOf, IsOfValues, IsRefusal};
+ghost use Rattle.bk_cli.specs.Commands.{command_line, word_of};
 ghost use Rattle.bk_cli.specs.Words.{settled};
 
 use crate::commands::{command, command_of};
@@ -70,24 +69,12 @@ fn input_twice(alloc: Global) -> Result<Error, AllocError>
     )
 }
 
-// Reads words whose first is the name of the program and whose second is that of a command.
-fn parse_settled<'a, S: AsStr>(alloc: Global, words: &'a [S]) -> Result<Line, Error>
-    ensures job { IfOk result (λ l. IsJobOf (subcommand_of command_line (map S.text words.now)) l.job) }
-    ensures once { IfOk result (λ l. reads_input_twice l.job ≡ false) }
-    ensures notes { IfOk result (λ l. AreNotesOf (subcommand_of command_line (map S.text words.now)) l.notes) }
-    ensures strict { IfOk result (λ l. IsStrictOf (subcommand_of command_line (map S.text words.now)) l.strict) }
-    ensures whole { IfOk result (λ _. fault_of command_line (map S.text words.now) ≡ []) }
-    ensures kinds { IfErr result (λ e. HasKind (fault_of command_line (map S.text words.now)) e
-        ⊎ IsOfValues e (subcommand_of command_line (map S.text words.now))) }
-    ensures error { IfErr result (λ e. takes command_line (map S.text words.now) ≡ true
-        → (kind_of e ≡ ErrorKind.OutOfMemory)
-        ⊎ IsOfValues e (subcommand_of command_line (map S.text words.now))) }
+// The line of this command with the values of its arguments.
+fn line_of(alloc: Global, verb: Verb, found: &ArgMatches<'_>) -> Result<Line, Error>
+    ensures line { IfOk result (IsLineFor (Some (word_of verb, rows_of (found_of found.now)))) }
+    ensures error { IfErr result (λ e. (kind_of e ≡ ErrorKind.OutOfMemory)
+        ⊎ IsOfValues e (Some (word_of verb, rows_of (found_of found.now)))) }
 {
-    let matches = matches_of(alloc, words)?;
-    let Some((name, found)) = matches.subcommand() else {
-        unreachable!()
-    };
-    let verb = Verb::of(name);
     let Some(job) = job_in(alloc, verb, found)? else {
         return Err(no_job(alloc, verb)?);
     };
@@ -99,6 +86,18 @@ fn parse_settled<'a, S: AsStr>(alloc: Global, words: &'a [S]) -> Result<Line, Er
     Ok(Line { job, notes, strict })
 }
 
+// Reads words whose first is the name of the program and whose second is that of a command.
+fn parse_settled<'a, S: AsStr>(alloc: Global, words: &'a [S]) -> Result<Line, Error>
+    ensures line { IfOk result (IsLineOf (map S.text words.now)) }
+    ensures error { IfErr result (IsRefusal (map S.text words.now)) }
+{
+    let matches = matches_of(alloc, words)?;
+    let Some((name, found)) = matches.subcommand() else {
+        unreachable!()
+    };
+    line_of(alloc, Verb::of(name), found)
+}
+
 /// Reads the words of a command line; the first is the program's name.
 ///
 /// The options that every command has may come before the command's name, and `help` is another spelling of `--help`.
@@ -108,16 +107,8 @@ fn parse_settled<'a, S: AsStr>(alloc: Global, words: &'a [S]) -> Result<Line, Er
 /// `check-state` that is not a digest, a value of `--links` that is none of its words, `--wait` without `--follow` or a
 /// file, and standard input that is named twice, are faults of the kind `ValueValidation`.
 pub fn parse_line<'a, S: AsStr>(alloc: Global, words: &'a [S]) -> Result<Line, Error>
-    ensures job { IfOk result (λ l. IsJobOf (subcommand_of command_line (settled (map S.text words.now))) l.job) }
-    ensures once { IfOk result (λ l. reads_input_twice l.job ≡ false) }
-    ensures notes { IfOk result (λ l. AreNotesOf (subcommand_of command_line (settled (map S.text words.now))) l.notes) }
-    ensures strict { IfOk result (λ l. IsStrictOf (subcommand_of command_line (settled (map S.text words.now))) l.strict) }
-    ensures whole { IfOk result (λ _. fault_of command_line (settled (map S.text words.now)) ≡ []) }
-    ensures kinds { IfErr result (λ e. HasKind (fault_of command_line (settled (map S.text words.now))) e
-        ⊎ IsOfValues e (subcommand_of command_line (settled (map S.text words.now)))) }
-    ensures error { IfErr result (λ e. takes command_line (settled (map S.text words.now)) ≡ true
-        → (kind_of e ≡ ErrorKind.OutOfMemory)
-        ⊎ IsOfValues e (subcommand_of command_line (settled (map S.text words.now)))) }
+    ensures line { IfOk result (IsLineOf (settled (map S.text words.now))) }
+    ensures error { IfErr result (IsRefusal (settled (map S.text words.now))) }
 {
     let words = settle(alloc, words)?;
     parse_settled(alloc, words.as_slice())

@@ -10,7 +10,8 @@ ghost use Rattle.bk_cli.specs.Files.{shown};
 use crate::about::FaultSubject;
 use crate::explain::words;
 use crate::job::Job;
-use crate::line::{Piece, ShortLine};
+use crate::line::Piece::{Digest, Number, Text};
+use crate::line::ShortLine;
 use crate::remarks::Remarks;
 use crate::shown::push_shown;
 use bk_digest::Digest32;
@@ -22,8 +23,8 @@ fn gap_end(digest: &Digest32) -> ShortLine
     ensures { result.items ≡ ended (gap_words digest.now) }
 {
     words(&[
-        Piece::Text(b"the order stops at the missing batch"),
-        Piece::Digest(digest),
+        Text(b"the order stops at the missing batch"),
+        Digest(digest),
     ])
 }
 
@@ -32,11 +33,11 @@ fn tag_end(wrong: &WrongTag) -> ShortLine
     ensures { result.items ≡ ended (tag_words wrong.now) }
 {
     words(&[
-        Piece::Text(b"of the certificate in frame"),
-        Piece::Number(wrong.frame),
-        Piece::Text(b" the tag of signer"),
-        Piece::Number(u64::from(wrong.signer)),
-        Piece::Text(b" is not that of its key"),
+        Text(b"of the certificate in frame"),
+        Number(wrong.frame),
+        Text(b" the tag of signer"),
+        Number(u64::from(wrong.signer)),
+        Text(b" is not that of its key"),
     ])
 }
 

@@ -8,6 +8,7 @@ ghost use Rattle.bk_cli.specs.Pieces.{room, said};
 ghost use Rattle.bk_cli.specs.Strictness.{IsJudged, flaw_line, is_judged};
 
 use crate::exit::Exit;
+use crate::line::Piece::{Digest, Number, Text};
 use crate::line::{Piece, ShortLine, short_line};
 use bk_frames::{Sink, push_all};
 use bk_results::Flaw;
@@ -37,10 +38,10 @@ fn line_of(flaw: &Flaw) -> ShortLine
     ensures { result.items ≡ flaw_line flaw.now }
 {
     match flaw {
-        Flaw::Missing { digest } => strict(&[Piece::Text(b"missing"), Piece::Digest(digest)]),
-        Flaw::Rejected { frames } => strict(&[Piece::Text(b"rejected"), Piece::Number(*frames)]),
-        Flaw::Waiting { certs } => strict(&[Piece::Text(b"waiting"), Piece::Number(*certs)]),
-        Flaw::NothingOrdered => strict(&[Piece::Text(b"nothing ordered")]),
+        Flaw::Missing { digest } => strict(&[Text(b"missing"), Digest(digest)]),
+        Flaw::Rejected { frames } => strict(&[Text(b"rejected"), Number(*frames)]),
+        Flaw::Waiting { certs } => strict(&[Text(b"waiting"), Number(*certs)]),
+        Flaw::NothingOrdered => strict(&[Text(b"nothing ordered")]),
     }
 }
 

@@ -9,16 +9,14 @@ use Rattle.clap.specs.declared.error.Error.{Error}
 use Rattle.clap.specs.declared.error.kind.ErrorKind.TheVariants as kind
 use Rattle.bk_frames.specs.Device.{Device}
 use Rattle.bk_results.specs.declared.fault.Fault.TheVariants as replay
-use Rattle.bk_cli.specs.CommandLine.{AreNotesOf, IsJobOf, IsOfValues, IsStrictOf}
+use Rattle.bk_cli.specs.CommandLine.{IsLineOf, IsOfValues}
 use Rattle.bk_cli.specs.Commands.{command_line}
 use Rattle.bk_cli.specs.Exits.{exit_number, has_fault}
 use Rattle.bk_cli.specs.FaultLines.{Reports, line_of}
-use Rattle.bk_cli.specs.Files.{reads_input_twice}
 use Rattle.bk_cli.specs.declared.exit.Exit.{Exit}
 use Rattle.bk_cli.specs.declared.exit.Exit.TheVariants as exit
-use Rattle.bk_cli.specs.declared.job.Job.{Job}
 use Rattle.bk_cli.specs.declared.job_fault.JobFault.TheVariants as fault
-use Rattle.bk_cli.specs.declared.notes.Notes.{Notes}
+use Rattle.bk_cli.specs.declared.parsing.Line.{Line}
 use Rattle.bk_cli.specs.Words.{settled}
 use Rattle.bk_jobs.specs.Openings.{Ran}
 use Rattle.bk_jobs.specs.Reads.{IsLeft, Sight}
@@ -49,17 +47,11 @@ unread_words = codes "error: a word of the command line is not UTF-8\n"
 -- which it reads once at most, and left what it has no use for, reported as their notes say
 pub record RanJob {N F I : Type 0} (s : Sight F I) (old new : Access N F I) (words : List Text) (said : Option Error) (end : Exit)
     (out out' err err' : Device) : Type 0 where
-  pub job : Job
-  pub notes : Notes
-  pub good : fault_of command_line words ≡ []
-  pub names : IsJobOf (subcommand_of command_line words) job
-  pub noted : AreNotesOf (subcommand_of command_line words) notes
-  pub strict : Bool
-  pub asked : IsStrictOf (subcommand_of command_line words) strict
-  pub once : reads_input_twice job ≡ false
+  pub line : Line
+  pub asked : IsLineOf words line
   pub silent : said ≡ None
-  pub left : IsLeft job old new
-  pub ran : Ran s old new job strict notes.verbose end out out' err err'
+  pub left : IsLeft line.job old new
+  pub ran : Ran s old new line.job line.strict line.notes.verbose end out out' err err'
 
 -- the words have a fault, or ask for help or the version, or memory ran out: they are answered with that, which decides how the
 -- program ends, no file is opened and standard input is left unread, nothing is written of an answer, and where it ends with Failed

@@ -5,14 +5,8 @@ use Rattle.bkreplay.proofs.program.run_words.Goals as goal
 pub returns-in-Ok : goal.returns-in-Ok
 returns-in-Ok g c = record {
   ran = inl (record {
-    job = c.in-Ok.line.job;
-    notes = c.in-Ok.line.notes;
-    good = c.in-Ok.ensures.whole;
-    names = c.in-Ok.ensures.job;
-    noted = c.in-Ok.ensures.notes;
-    strict = c.in-Ok.line.strict;
-    asked = c.in-Ok.ensures.strict;
-    once = c.in-Ok.ensures.once;
+    line = c.in-Ok.line;
+    asked = c.in-Ok.ensures.line;
     silent = c.requires.silent;
     left = c.open_and_run.ensures.left;
     ran = c.open_and_run.ensures.ran;
@@ -23,7 +17,7 @@ pub returns-in-Err : goal.returns-in-Err
 returns-in-Err g c = record {
   ran = inr (record {
     error = c.in-Err.error;
-    names = c.in-Err.ensures.kinds;
+    names = c.in-Err.ensures.error.named;
     answered = c.answer.ensures.said;
     left = refl;
     ends = c.answer.ensures.kind;
