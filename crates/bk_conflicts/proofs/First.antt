@@ -1,5 +1,5 @@
 -- Where the pass begins, and one row more.
-use Rattle.std.proofs.Common.{◌≡◌, ℕ, suc, ◌+◌, ◌<◌, ◌≤◌, List, [], ◌∷◌, ◌++◌, length, get_or, replicate, sym, ap, ◌∙◌, subst, arith, length-append}
+use Rattle.std.proofs.Common.{◌≡◌, ℕ, suc, ◌+◌, ◌<◌, List, [], ◌∷◌, ◌++◌, length, get_or, replicate, sym, ap, ◌∙◌, subst, arith, length-append}
 use mathlib.Core.Logic.{dite}
 use native.Mathlib.Decide.{ℕ_discrete}
 use Rattle.std.proofs.lemmas.List.{get_or_append_left, get_or-append-add, get_or-replicate, length-replicate}
@@ -46,7 +46,3 @@ trail_none n places r a b = record {
   heads = λ k l. let e = at_slot n r.last.items a k l in omega arith;
   wrote = λ k l other. let e = at_slot n r.last.items a k l in let z : newest_by (get_or r.last.items k 0) ≡ 0 = omega arith in absurd (other (writer_low r.readers.items (get_or r.last.items k 0) z ∙ e));
 }
-
--- with mark 0 nothing is found yet, whatever the stamps: the first mark used is 1
-pub low_none : (stamp : List ℕ) (n : ℕ) → stamp ≡ replicate n 0 → (p : ℕ) → p < length stamp → get_or stamp p 0 ≤ 0
-low_none stamp n e p l = let m : p < n = let c = ap length e in let d : length (replicate {A = ℕ} n 0) ≡ n = length-replicate n 0 in omega arith in let h = ap (λ (xs : List ℕ). get_or xs p 0) e ∙ get_or-replicate n p 0 0 m in omega arith

@@ -65,27 +65,7 @@ impl Plan {
         ensures txs { IfOk result (λ p. p.txs ≡ txs.items) }
         ensures plan { IfOk result IsPlan }
     {
-        Plan::make_near(alloc, version, ids, txs, &[])
-    }
-
-    /// The same, with likely slots of the accounts that the transactions declare, in their order, as `Ids::push_likely`
-    /// lists them. The plan is the same whatever they are: each that is right saves a look-up.
-    pub fn make_near(
-        alloc: Global,
-        version: Version,
-        ids: &Ids,
-        txs: Vec<Option<Tx>>,
-        near: &[u32],
-    ) -> Result<Plan, AllocError>
-        requires covered { are_covered version ids.now txs.items ≡ true }
-        requires few { length txs.items < 2 ^ 31 }
-        requires few_slots { length ids.now < 2 ^ 31 }
-        ensures version { IfOk result (λ p. p.version ≡ version) }
-        ensures ids { IfOk result (λ p. p.ids ≡ ids.now) }
-        ensures txs { IfOk result (λ p. p.txs ≡ txs.items) }
-        ensures plan { IfOk result IsPlan }
-    {
-        Planner::new(alloc).plan(alloc, version, ids, txs, near)
+        Planner::new(alloc).plan(alloc, version, ids, txs, &[])
     }
 
     // The plan that lists hold.

@@ -26,7 +26,8 @@ impl Planner {
         }
     }
 
-    /// The same plan as `Plan::make_near`.
+    /// The same plan as `Plan::make`, with likely slots of the accounts that the transactions declare, in their order, as
+    /// `Ids::push_likely` lists them. The plan is the same whatever they are: each that is right saves a look-up.
     pub fn plan(
         &mut self,
         alloc: Global,

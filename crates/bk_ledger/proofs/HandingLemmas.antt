@@ -8,7 +8,7 @@ use Rattle.bk_ledger.specs.declared.looking.Looked.{Looked}
 use Rattle.bk_ledger.specs.declared.looking.Turns.{Turns}
 use Rattle.bk_ledger.specs.declared.planning.Planned.{Planned}
 use Rattle.bk_ledger.specs.private.Handing.{AreHanded, AreLooked, ArePlanned, AreTurns, IsLooked, batches_of, end_of, follows, follows_planned, may_be_looked, planned_end, planned_of}
-use Rattle.bk_ledger.specs.private.Slices.{IsNextOf, IsReadOf, counts_of}
+use Rattle.bk_ledger.specs.private.Slices.{IsNextOf, counts_of}
 
 -- the first, which has no batch
 pub first_handed : (h : Handed) (items : List Handed) → items ≡ h ∷ [] → h.read.counts.items ≡ [] → AreHanded (batches_of h) 0 items
@@ -19,24 +19,6 @@ first_handed h items is none = record {
   batches = refl;
   ends = ap end_of is ∙ omega (arith, ap length none);
 }
-
--- what follows is the next slice
-pub handed_reads : (payloads : List (List ℕ)) (at : ℕ) (items : List Handed) (h : Handed) → AreHanded payloads at items → follows items h
-    → IsReadOf payloads at h.read.counts.items h.read.txs.items
-handed_reads payloads at items h all next =
-    let reads : IsReadOf (batches_of all.first) (end_of (all.first ∷ all.rest)) h.read.counts.items h.read.txs.items = subst (λ xs. follows xs h) all.split next in
-    let ends : end_of (all.first ∷ all.rest) ≡ at = ap end_of (sym all.split) ∙ all.ends in
-    subst (λ n. IsReadOf payloads n h.read.counts.items h.read.txs.items) ends
-    (subst (λ ps. IsReadOf ps (end_of (all.first ∷ all.rest)) h.read.counts.items h.read.txs.items) all.batches reads)
-
--- the next slice may follow
-pub may_follow : (payloads : List (List ℕ)) (at : ℕ) (items : List Handed) (h : Handed) → AreHanded payloads at items
-    → IsReadOf payloads at h.read.counts.items h.read.txs.items → follows items h
-may_follow payloads at items h all reads =
-    let ends : at ≡ end_of (all.first ∷ all.rest) = sym (ap end_of (sym all.split) ∙ all.ends) in
-    subst (λ xs. follows xs h) (sym all.split)
-    (subst (λ ps. IsReadOf ps (end_of (all.first ∷ all.rest)) h.read.counts.items h.read.txs.items) (sym all.batches)
-    (subst (λ n. IsReadOf payloads n h.read.counts.items h.read.txs.items) ends reads))
 
 -- one more adds its batches
 end_more : (items : List Handed) (h : Handed) → end_of (items ++ h ∷ []) ≡ end_of items + length h.read.counts.items
@@ -76,12 +58,6 @@ first_looked l items is = record {
 pub looked_next : (payloads : List (List ℕ)) (slots : List ℕ) (items : List Looked) (l : Looked) → AreLooked payloads slots items → may_be_looked items l → IsLooked payloads slots l
 looked_next payloads slots items l all next =
     subst (λ (y : List (List ℕ) × List ℕ). IsLooked y.0 y.1 l) (λ i. (all.batches i, all.slots_are i)) (subst (λ xs. may_be_looked xs l) all.split next)
-
--- such a slice may come
-pub looked_may : (payloads : List (List ℕ)) (slots : List ℕ) (items : List Looked) (l : Looked) → AreLooked payloads slots items → IsLooked payloads slots l → may_be_looked items l
-looked_may payloads slots items l all is =
-    subst (λ xs. may_be_looked xs l) (sym all.split)
-    (subst (λ (y : List (List ℕ) × List ℕ). IsLooked y.0 y.1 l) (λ i. (sym all.batches i, sym all.slots_are i)) is)
 
 -- one more is one of them
 pub looked_more : (payloads : List (List ℕ)) (slots : List ℕ) (items more : List Looked) (l : Looked) → AreLooked payloads slots items → more ≡ items ++ l ∷ [] → AreLooked payloads slots more
@@ -156,14 +132,6 @@ planned_next payloads version slots at items p all next =
     let is : IsNextOf (planned_of all.first) (planned_end (all.first ∷ all.rest)) all.first.version all.first.ids.now p.next = subst (λ xs. follows_planned xs p) all.split next in
     let ends : planned_end (all.first ∷ all.rest) ≡ at = ap planned_end (sym all.split) ∙ all.ends in
     subst (λ (y : List (List ℕ) × ℕ × Version × List ℕ). IsNextOf y.0 y.1 y.2 y.3 p.next) (λ i. (all.batches i, ends i, all.version_is i, all.slots_are i)) is
-
--- the next slice may follow
-pub may_be_planned : (payloads : List (List ℕ)) (version : Version) (slots : List ℕ) (at : ℕ) (items : List Planned) (p : Planned) → ArePlanned payloads version slots at items
-    → IsNextOf payloads at version slots p.next → follows_planned items p
-may_be_planned payloads version slots at items p all is =
-    let ends : planned_end (all.first ∷ all.rest) ≡ at = ap planned_end (sym all.split) ∙ all.ends in
-    subst (λ xs. follows_planned xs p) (sym all.split)
-    (subst (λ (y : List (List ℕ) × ℕ × Version × List ℕ). IsNextOf y.0 y.1 y.2 y.3 p.next) (λ i. (sym all.batches i, sym ends i, sym all.version_is i, sym all.slots_are i)) is)
 
 -- one more adds its batches
 pub planned_more : (payloads : List (List ℕ)) (version : Version) (slots : List ℕ) (at : ℕ) (items more : List Planned) (p : Planned) → ArePlanned payloads version slots at items

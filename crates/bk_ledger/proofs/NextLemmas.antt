@@ -1,6 +1,5 @@
 -- Slices that are planned before their turn comes.
-use Rattle.std.proofs.Common.{◌≡◌, ℕ, ◌+◌, ◌^◌, ◌<◌, ◌≤◌, List, [], ◌++◌, length, Option, Result, refl, sym, ap, subst, ◌∙◌, arith}
-use Rattle.std.specs.Prelude.{IfOk, IfErr}
+use Rattle.std.proofs.Common.{◌≡◌, ℕ, ◌+◌, ◌^◌, ◌<◌, ◌≤◌, List, [], ◌++◌, length, Option, refl, sym, ap, subst, ◌∙◌, arith}
 use Rattle.std.specs.Arc.{arc_value}
 use Rattle.bk_base.specs.declared.genesis.Row.{Row}
 use Rattle.bk_base.specs.declared.version.Version.{Version}
@@ -14,10 +13,9 @@ use Rattle.bk_ledger.specs.declared.ready.Ready.{Ready}
 use Rattle.bk_ledger.specs.declared.ready.Next.{Next}
 use Rattle.bk_ledger.specs.declared.ready.Next.TheVariants as next
 use Rattle.bk_ledger.specs.declared.batches.Batches.{Batches}
-use Rattle.bk_ledger.specs.Executing.{HasRun, Leaves}
+use Rattle.bk_ledger.specs.Executing.{HasRun}
 use Rattle.bk_ledger.specs.Naming.{named_by}
 use Rattle.bk_ledger.specs.private.Slices.{CanRunPart, IsNextFrom, IsNextOf, IsPlannedOn, IsReadOf, IsReady, IsSame, counts_of, txs_of}
-use Rattle.bk_pool.specs.declared.outcome.ExecFault.{ExecFault}
 use Rattle.bk_ledger.specs.Sliced.{RunInSlices}
 use Rattle.bk_ledger.proofs.Alone.{all_alone}
 use Rattle.bk_ledger.proofs.Growth.{slots_long}
@@ -81,19 +79,9 @@ same_ran counts txs a b c same grown still ran = record {
   ran = λ few. subst (λ (y : Version × List Row). RunInSlices y.0 txs y.1 (receipts_of y.0 txs y.1) c.state.rows) (λ i. (same.version i, same.rows i)) (ran.ran few);
 }
 
--- what it gives, by the names of its parts
-pub ready_ran : (version : Version) (slots : List ℕ) (counts : List (Option ℕ)) (txs : List (Option Transaction)) (r : Ready) (a : LedgerValue) (x : Result (LedgerValue × ℕ) ExecFault) → IsReady version slots counts txs r
-    → IfOk x (λ s. HasRun r.counts.items (arc_value r.plan).txs a s.0) → IfOk x (λ s. HasRun counts txs a s.0)
-ready_ran version slots counts txs r a x ready ran = subst (λ (s : List (Option ℕ) × List (Option Transaction)). IfOk x (λ y. HasRun s.0 s.1 a y.0)) (λ i. (ready.counts_are i, ready.txs_are i)) ran
-
 -- its places are numbered
 pub ready_places : (first : ℕ) (version : Version) (slots : List ℕ) (counts : List (Option ℕ)) (txs : List (Option Transaction)) (r : Ready) → IsReady version slots counts txs r → first + length txs < 2 ^ 32 → first + length (arc_value r.plan).txs < 2 ^ 32
 ready_places first version slots counts txs r ready few = omega (arith, few, ap length ready.txs_are)
-
--- what it leaves undone
-pub ready_leaves : (first : ℕ) (version : Version) (slots : List ℕ) (counts : List (Option ℕ)) (txs : List (Option Transaction)) (r : Ready) (x : Result (LedgerValue × ℕ) ExecFault) → IsReady version slots counts txs r
-    → IfErr x (Leaves first (first + length (arc_value r.plan).txs)) → IfErr x (Leaves first (first + length txs))
-ready_leaves first version slots counts txs r x ready left = subst (λ (n : ℕ). IfErr x (Leaves first (first + n))) (ap length ready.txs_are) left
 
 -- transactions in their order, on the slots that there are
 pub run_here : (counts : List (Option ℕ)) (txs : List (Option Transaction)) (a b : LedgerValue) → b.counts ≡ a.counts ++ counts → b.receipts ≡ a.receipts ++ receipts_of a.state.version txs a.state.rows

@@ -107,9 +107,6 @@ module _ (r : Ready) (l : rules.Ledger) (runs : CanRunPart r l) (p : rules.Ledge
     pub after_slots : after.slots ≡ (arc_value r.plan).ids
     after_slots = ap (λ (x : rules.Ledger). x.slots) after_is
 
-    pub after_version : after.version ≡ l.version
-    after_version = ap (λ (x : rules.Ledger). x.version) after_is
-
     receipts_are : new ≡ old ++ receipts_of l.version (arc_value r.plan).txs l.rows
     receipts_are =
         let planned = runs.planned in

@@ -99,10 +99,6 @@ receipts_after counts txs a b ran =
     ap length ran.receipts ∙ length-append a.receipts (receipts_of a.state.version txs a.state.rows)
     ∙ ap (λ n. length a.receipts + n) (length-receipts a.state.version txs a.state.rows)
 
--- and so many counts
-pub counts_after : (counts : List (Option ℕ)) (txs : List (Option Transaction)) (a b : LedgerValue) → HasRun counts txs a b → length b.counts ≡ length a.counts + length counts
-counts_after counts txs a b ran = ap length ran.counts_are ∙ length-append a.counts counts
-
 -- ---- reading a slice
 
 pub slice_none : (payloads : List (List ℕ)) (from : ℕ) (counts : List (Option ℕ)) (txs : List (Option Transaction)) → counts ≡ [] → txs ≡ [] → IsSliceOf payloads from counts txs

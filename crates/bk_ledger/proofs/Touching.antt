@@ -1,25 +1,11 @@
 -- Indexes of slots.
-use Rattle.std.proofs.Common.{◌≡◌, ℕ, zero, suc, ◌+◌, ◌<◌, true, ltb, List, [], ◌∷◌, ◌++◌, length, map, get_or, IsTrue, refl, sym, subst, ap, ap₂, ◌∙◌, add-one, arith}
-use Rattle.std.specs.List.{list_all, range_with_len}
+use Rattle.std.proofs.Common.{◌≡◌, ℕ, zero, suc, ◌+◌, ◌<◌, ltb, List, [], ◌∷◌, ◌++◌, length, map, get_or, IsTrue, refl, sym, subst, ap, ap₂, ◌∙◌, add-one, arith}
+use Rattle.std.specs.List.{range_with_len}
 use Rattle.std.proofs.lemmas.Bool.{lt-ltb}
-use Rattle.std.proofs.lemmas.Bool.Decides.{nat_tests}
 use Rattle.std.proofs.lemmas.List.FromFn.{length-range_with_len, get_or-range_with_len}
 use Rattle.bk_base.specs.Numbers.{is_ascending}
 use Rattle.bk_rules.specs.Part.{AreIndexes, ids_at}
-use Rattle.bk_rules.proofs.RowLemmas.{and_left, and_right, and_both}
-
--- numbers that passed both tests
-below_at : (n : ℕ) (list : List ℕ) → list_all (λ (k : ℕ). ltb k n) list ≡ true → (i : ℕ) → i < length list → get_or list i 0 < n
-below_at n [] all i low = absurd (omega arith)
-below_at n (k ∷ list) all zero low = let first : ltb k n ≡ true = and_left (ltb k n) _ all in grind (arith, nat_tests)
-below_at n (k ∷ list) all (suc i) low = below_at n list (and_right (ltb k n) _ all) i (omega arith)
-
-pub indexes_tested : (n : ℕ) (list : List ℕ) → list_all (λ (k : ℕ). ltb k n) list ≡ true → is_ascending list ≡ true → AreIndexes n list
-indexes_tested n list below up = record { ascending = up; within = below_at n list below }
-
--- no indexes
-pub indexes_none : (n : ℕ) → AreIndexes n []
-indexes_none n = record { ascending = refl; within = λ k low. absurd (omega arith) }
+use Rattle.bk_rules.proofs.RowLemmas.{and_both}
 
 -- all of them
 range_ascends : (a n : ℕ) → IsTrue (is_ascending (range_with_len a n))

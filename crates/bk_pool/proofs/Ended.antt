@@ -13,14 +13,13 @@ use Rattle.bk_rules.proofs.Words.{length-pairs}
 use Rattle.bk_rules.specs.Numbers.{number_of, status_with}
 use Rattle.bk_conflicts.specs.Plan.{PlanValue}
 use Rattle.bk_conflicts.specs.Scene.{status_at, moved_at}
-use Rattle.bk_conflicts.specs.SceneOf.{CanRunOn, tx_at, accounts_by, status_on}
+use Rattle.bk_conflicts.specs.SceneOf.{tx_at, accounts_by, status_on}
 use Rattle.bk_bank.specs.declared.setting.Setting.{Setting}
 use Rattle.bk_bank.specs.Setting.{scene_of, setting_with}
 use Rattle.bk_bank.specs.Steps.{Ends}
 use Rattle.bk_bank.specs.Bank.{BankData, bank_scene}
 use Rattle.bk_bank.specs.Words.{WordsData, state_at, moved_word_at, AllFinished}
 use Rattle.bk_bank.proofs.Settings.{scene_places, scene_words}
-use Rattle.bk_pool.specs.Reads.{IsBankOf}
 use Rattle.bk_pool.specs.Outcomes.{IsClosed}
 use Rattle.bk_pool.specs.private.Receipts.{receipt_at, no_receipt, AreReceipts, AreAdded, AreStatuses, AreNumbers}
 
@@ -146,10 +145,4 @@ closed_of plan ledger b w is ends size = record {
   ends = subst (λ (g : Setting). Ends (scene_of g) w.items) is ends;
   words = size.0 ∙ (ap (λ (g : Setting). (scene_of g).words) is ∙ scene_words (setting_with plan ledger));
   places = size.1 ∙ (ap (λ (g : Setting). (scene_of g).places) is ∙ scene_places (setting_with plan ledger));
-}
-
-pub bank_of : (plan : PlanValue) (ledger : Ledger) (b : BankData) → b.setting ≡ setting_with plan ledger → CanRunOn plan ledger → IsBankOf plan b
-bank_of plan ledger b is runs = record {
-  same = ap (λ (g : Setting). g.plan) (sym is);
-  runs = subst (λ (g : Setting). CanRunOn plan g.opening) (sym is) runs;
 }

@@ -292,13 +292,6 @@ less_more after old new k l h = record {
         (omega arith, omega arith))
         (cases_eq x q)
 
-pub less_none : (after old : List ℕ) → ((q : ℕ) → times q after ≤ get_or old q 0) → IsLess after old old 0
-less_none after old fits = record {
-  long = refl;
-  fits = fits;
-  taken = λ q. (let e : times q (drop 0 after) ≡ times q after = refl in omega arith);
-}
-
 nothing : (q : ℕ) → times q [] ≡ 0
 unfolding times
 nothing q = refl

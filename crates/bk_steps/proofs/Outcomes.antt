@@ -1,6 +1,5 @@
 -- What a machine gives where every place is done.
-use Rattle.std.proofs.Common.{◌≡◌, ℕ, zero, suc, ◌*◌, ◌^◌, ◌<◌, List, [], ◌∷◌, length, map, get_or, take, true, false, Option, None, Some, refl, sym, ap, ◌∙◌, subst, arith, take_all}
-use Rattle.std.proofs.lemmas.Bool.{both_ways}
+use Rattle.std.proofs.Common.{◌≡◌, ℕ, zero, suc, ◌^◌, ◌<◌, List, [], ◌∷◌, length, map, get_or, take, true, false, Option, None, Some, refl, sym, ap, ◌∙◌, subst, arith, take_all}
 use Rattle.std.proofs.lemmas.List.{ext_get_or, length-map, get_or-take, length-take-le}
 use Rattle.std.proofs.lemmas.Option.{slice_get-get_or}
 use Rattle.std.specs.List.{slice_get}
@@ -26,13 +25,11 @@ use Rattle.bk_conflicts.proofs.Shown.{words_show}
 use Rattle.bk_steps.specs.Course.{Course, done, IsDone}
 use Rattle.bk_steps.specs.Moves.{AllAreDone}
 use Rattle.bk_steps.specs.Machine.{MachineValue, scene_in, phase_of, stage_at, Shows, IsMachine}
-use Rattle.bk_steps.specs.Schedule.{IsLeastLeft}
 use Rattle.bk_steps.specs.private.Machine.{is_done}
 use Rattle.bk_steps.specs.declared.stage.Stage.{Stage}
 use Rattle.bk_steps.specs.declared.stage.Stage.TheVariants.{Waiting, Held, Done}
 use Rattle.bk_steps.proofs.Reached.{sound}
 use Rattle.bk_steps.proofs.Running.{values_at_end, receipt_of_done}
-use Rattle.bk_steps.proofs.Seated.{done_shown, done_back}
 
 -- ---- receipts and stages
 
@@ -67,15 +64,6 @@ first_left rs stages p is low other = (
 pub all_done : (m : MachineValue) (rs : List Receipt) → IsMachine m → map (λ r. Done r) rs ≡ m.stages → (d : Course) → Shows m d
     → AllAreDone (scene_in m) d
 all_done m rs z is d k p l = subst IsDone (sym (k.phases p ∙ ap phase_of (stage_is m rs z is p (record { status = status.Ok; moved = 0 }) l))) tt
-
--- the least that is not done
-pub least_left : (m : MachineValue) (p : ℕ) → IsMachine m → (p < length m.stages) × (is_done (stage_at m p) ≡ false)
-    × ((q : ℕ) → q < p → is_done (stage_at m q) ≡ true) → (d : Course) → Shows m d → IsLeastLeft (scene_in m) d p
-least_left m p z (low, off, before) d k = record {
-  inside = subst (λ (n : ℕ). p < n) z.stages_long low;
-  left = λ h. both_ways (is_done (stage_at m p)) off (done_back (stage_at m p) (subst IsDone (k.phases p) h));
-  before = λ q l. subst IsDone (sym (k.phases q)) (done_shown (stage_at m q) (before q l));
-}
 
 -- ---- the receipts are the fold's
 
@@ -157,6 +145,3 @@ pub within : (m : MachineValue) (rs : List Receipt) → IsMachine m → map (λ 
     → total_of (rows_shown m.opening.version m.opening.slots (in_pairs m.words)) < 2 ^ 63
 within m rs z is = subst (λ (rows : List Row). total_of rows < 2 ^ 63) (sym (state_is m rs z is))
     (ledger_kept_by_fold m.opening.version m.plan.txs m.opening.rows z.can_run.is_ledger).within
-
-pub words_wide : (m : MachineValue) → IsMachine m → length m.words ≡ 2 * length m.opening.slots
-words_wide m z = z.words_long ∙ ap (λ (ids : List ℕ). 2 * length ids) (sym z.can_run.same_slots)

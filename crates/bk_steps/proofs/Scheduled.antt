@@ -6,24 +6,17 @@ use Rattle.bk_conflicts.specs.Plan.{PlanValue}
 use Rattle.bk_conflicts.specs.Scene.{Scene}
 use Rattle.bk_conflicts.specs.SceneOf.{scene_of}
 use Rattle.bk_steps.specs.Course.{Course}
-use Rattle.bk_steps.specs.Refusals.{Allows, Refuses}
-use Rattle.bk_steps.specs.Machine.{MachineValue, scene_in, Shows}
-use Rattle.bk_steps.specs.Steps.{Steps, IsRefused}
-use Rattle.bk_steps.specs.Schedule.{RunsAmong, IsFirstRefused, no_event}
+use Rattle.bk_steps.specs.Refusals.{Allows}
+use Rattle.bk_steps.specs.Machine.{MachineValue, scene_in}
+use Rattle.bk_steps.specs.Steps.{Steps}
+use Rattle.bk_steps.specs.Schedule.{RunsAmong}
 use Rattle.bk_steps.specs.private.Schedule.{HasRun}
 use Rattle.bk_steps.specs.declared.event.Event.{Event}
-use Rattle.bk_base.specs.declared.refused.Refused.{Refused}
 
 runs_more : (s : Scene) (n : ℕ) (es : List Event) (d mid end : Course) (e : Event) → RunsAmong s n d es mid → Allows s n mid e end
     → RunsAmong s n d (es ++ e ∷ []) end
 runs_more s n [] d mid end e is allowed = (end, subst (λ (c : Course). Allows s n c e end) is allowed, refl)
 runs_more s n (f ∷ fs) d mid end e (next, first, rest) allowed = (next, first, runs_more s n fs next mid end e rest allowed)
-
-pub run_none : (m : MachineValue) → HasRun m [] m
-run_none m = record {
-  same = record { plan = refl; opening = refl; workers = refl };
-  follows = λ d k. (d, refl, k);
-}
 
 pub run_more : (old mid new : MachineValue) (es : List Event) (e : Event) → HasRun old es mid → Steps mid e new
     → HasRun old (es ++ e ∷ []) new
@@ -47,13 +40,3 @@ pub run_next : (old mid new : MachineValue) (es : List Event) (i : ℕ) (e : Eve
     → Steps mid (get_or es i e) new → HasRun old (take (i + 1) es) new
 run_next old mid new es i e low h s = subst (λ (xs : List Event). HasRun old xs new) (sym (take_more es i e low))
     (run_more old mid new (take i es) (get_or es i e) h s)
-
-pub run_stops : (old mid : MachineValue) (es : List Event) (i : ℕ) (why : Refused) → i < length es → HasRun old (take i es) mid
-    → IsRefused mid (get_or es i no_event) why → (d : Course) → Shows old d → IsFirstRefused (scene_in old) (length old.seats) d es i why
-run_stops old mid es i why low h refused d k = let r = h.follows d k in record {
-  inside = low;
-  course = r.0;
-  runs = r.1;
-  refused = subst (λ (y : PlanValue × Ledger × ℕ). Refuses (scene_of y.0 y.1) y.2 r.0 (get_or es i no_event) why)
-      (λ j. (h.same.plan j, h.same.opening j, h.same.workers j)) (refused r.0 r.2);
-}
