@@ -1,7 +1,9 @@
 -- The line that reports a fault.
-use Rattle.std.specs.Prelude.{ℕ, ◌<◌, List, ◌++◌, ◌⊎◌, codes, length, take}
+use Rattle.std.specs.Prelude.{ℕ, ◌<◌, List, ◌++◌, ◌⊎◌, codes, length, take, MatchResult, Result}
 use Rattle.bk_frames.specs.Device.{Device, Works, Fails, Receives}
 use Rattle.bk_frames.specs.Faults.{fault_text}
+use Rattle.bk_frames.specs.Writing.{Writes}
+use Rattle.bk_frames.specs.declared.writing.WriteFault.{WriteFault}
 use Rattle.bk_results.specs.declared.compare_stop.CompareStop.{CompareStop}
 use Rattle.bk_results.specs.declared.compare_stop.CompareStop.TheVariants as compared
 use Rattle.bk_results.specs.declared.differ.Differ.{Differ}
@@ -87,6 +89,10 @@ line_of e = reported e ++ codes "\n"
 abbrev pub StopsReport : List ℕ → Device → Device → Type 0
 StopsReport text old new =
     Fails old new × ((written : ℕ) × (written < length text) × Receives old new (take written text))
+
+-- a call was to write a text: it wrote all of it; or not
+abbrev pub Pushes : {T : Type 0} → List ℕ → Result T WriteFault → Device → Device → Type 0
+Pushes text result old new = MatchResult result (λ _. Writes text old new) (λ _. StopsReport text old new)
 
 -- a sink was to receive a text: it received all of it; or not
 abbrev pub Reports : List ℕ → Device → Device → Type 0

@@ -1,11 +1,9 @@
 //! The lines on standard error that report what a job remarks beside its answer.
 
-ghost use Rattle.std.specs.Prelude.{◌≡◌, ◌++◌, codes, OnOk, IfErr};
+ghost use Rattle.std.specs.Prelude.{◌≡◌};
 ghost use Rattle.bk_frames.specs.Device.{CanBeUsed};
-ghost use Rattle.bk_frames.specs.Writing.{Writes};
 ghost use Rattle.bk_cli.specs.Explanations.{ended, gap_note, gap_words, remarks_told, tag_note, tag_words};
-ghost use Rattle.bk_cli.specs.FaultLines.{Reports, StopsReport};
-ghost use Rattle.bk_cli.specs.Files.{shown};
+ghost use Rattle.bk_cli.specs.FaultLines.{Pushes, Reports};
 
 use crate::about::FaultSubject;
 use crate::explain::words;
@@ -13,9 +11,9 @@ use crate::job::Job;
 use crate::line::Piece::{Digest, Number, Text};
 use crate::line::ShortLine;
 use crate::remarks::Remarks;
-use crate::shown::push_shown;
+use crate::shown::push_line;
 use bk_digest::Digest32;
-use bk_frames::{Sink, WriteFault, push_all};
+use bk_frames::{Sink, WriteFault};
 use bk_results::WrongTag;
 
 // What comes after the name of a feed whose order stops at a missing batch.
@@ -41,30 +39,13 @@ fn tag_end(wrong: &WrongTag) -> ShortLine
     ])
 }
 
-// Writes the line of a feed of this name with this end.
-fn push_line<E: Sink>(name: &str, end: &ShortLine, err: &mut E) -> Result<(), WriteFault>
-    requires { CanBeUsed (E.state err.old) }
-    ensures whole { OnOk result (Writes (codes "bkreplay: " ++ (shown name.now ++ end.now.items))
-        (E.state err.old) (E.state err.new)) }
-    ensures part { IfErr result (λ _. StopsReport (codes "bkreplay: " ++ (shown name.now ++ end.now.items))
-        (E.state err.old) (E.state err.new)) }
-{
-    push_all(err, b"bkreplay: ")?;
-    push_shown(name.as_bytes(), err)?;
-    push_all(err, end.as_slice())?;
-    Ok(())
-}
-
 // Writes the line of a feed whose order stops at a missing batch, nothing where none is missing.
 fn push_gap<E: Sink>(name: &str, missing: &Option<Digest32>, err: &mut E) -> Result<(), WriteFault>
     requires { CanBeUsed (E.state err.old) }
-    ensures whole { OnOk result (Writes (gap_note name.now missing.now)
-        (E.state err.old) (E.state err.new)) }
-    ensures part { IfErr result (λ _. StopsReport (gap_note name.now missing.now)
-        (E.state err.old) (E.state err.new)) }
+    ensures { Pushes (gap_note name.now missing.now) result (E.state err.old) (E.state err.new) }
 {
     match missing {
-        Some(digest) => push_line(name, &gap_end(digest), err),
+        Some(digest) => push_line(name, gap_end(digest).as_slice(), err),
         None => Ok(()),
     }
 }
@@ -72,13 +53,10 @@ fn push_gap<E: Sink>(name: &str, missing: &Option<Digest32>, err: &mut E) -> Res
 // Writes the line of a feed that has a wrong tag, nothing where none is wrong.
 fn push_tag<E: Sink>(name: &str, forged: &Option<WrongTag>, err: &mut E) -> Result<(), WriteFault>
     requires { CanBeUsed (E.state err.old) }
-    ensures whole { OnOk result (Writes (tag_note name.now forged.now)
-        (E.state err.old) (E.state err.new)) }
-    ensures part { IfErr result (λ _. StopsReport (tag_note name.now forged.now)
-        (E.state err.old) (E.state err.new)) }
+    ensures { Pushes (tag_note name.now forged.now) result (E.state err.old) (E.state err.new) }
 {
     match forged {
-        Some(wrong) => push_line(name, &tag_end(wrong), err),
+        Some(wrong) => push_line(name, tag_end(wrong).as_slice(), err),
         None => Ok(()),
     }
 }
@@ -86,10 +64,7 @@ fn push_tag<E: Sink>(name: &str, forged: &Option<WrongTag>, err: &mut E) -> Resu
 // Writes all lines of a job.
 fn push_remarks<E: Sink>(job: &Job, remarks: &Remarks, err: &mut E) -> Result<(), WriteFault>
     requires { CanBeUsed (E.state err.old) }
-    ensures whole { OnOk result (Writes (remarks_told job.now remarks.now)
-        (E.state err.old) (E.state err.new)) }
-    ensures part { IfErr result (λ _. StopsReport (remarks_told job.now remarks.now)
-        (E.state err.old) (E.state err.new)) }
+    ensures { Pushes (remarks_told job.now remarks.now) result (E.state err.old) (E.state err.new) }
 {
     push_gap(FaultSubject::First.name(job), &remarks.first, err)?;
     push_gap(FaultSubject::Second.name(job), &remarks.second, err)?;

@@ -1,9 +1,8 @@
 //! Names as lines show them.
 
-ghost use Rattle.std.specs.Prelude.{◌≡◌, ◌≤◌, length, map, OnOk, IfErr};
+ghost use Rattle.std.specs.Prelude.{◌≡◌, ◌≤◌, ◌++◌, codes, length, map};
 ghost use Rattle.bk_frames.specs.Device.{CanBeUsed};
-ghost use Rattle.bk_frames.specs.Writing.{Writes};
-ghost use Rattle.bk_cli.specs.FaultLines.{StopsReport};
+ghost use Rattle.bk_cli.specs.FaultLines.{Pushes};
 ghost use Rattle.bk_cli.specs.Files.{shown, shown_byte};
 
 use crate::line::{ShortLine, put_text};
@@ -35,9 +34,7 @@ fn shown(bytes: &[u8]) -> ShortLine
 /// Writes the bytes of a name as a line shows them: no terminal takes them for more than text.
 pub(crate) fn push_shown<E: Sink>(bytes: &[u8], err: &mut E) -> Result<(), WriteFault>
     requires { CanBeUsed (E.state err.old) }
-    ensures whole { OnOk result (Writes (shown bytes.now) (E.state err.old) (E.state err.new)) }
-    ensures part { IfErr result (λ _. StopsReport (shown bytes.now)
-        (E.state err.old) (E.state err.new)) }
+    ensures { Pushes (shown bytes.now) result (E.state err.old) (E.state err.new) }
 {
     let (part, rest) = bytes.split_at(bytes.len().min(192));
     push_all(err, shown(part).as_slice())?;
@@ -45,5 +42,17 @@ pub(crate) fn push_shown<E: Sink>(bytes: &[u8], err: &mut E) -> Result<(), Write
         return Ok(());
     }
     push_shown(rest, err)?;
+    Ok(())
+}
+
+/// Writes the line that ends so and is about what has this name.
+pub(crate) fn push_line<E: Sink>(name: &str, end: &[u8], err: &mut E) -> Result<(), WriteFault>
+    requires { CanBeUsed (E.state err.old) }
+    ensures { Pushes (codes "bkreplay: " ++ (shown name.now ++ end.now)) result
+        (E.state err.old) (E.state err.new) }
+{
+    push_all(err, b"bkreplay: ")?;
+    push_shown(name.as_bytes(), err)?;
+    push_all(err, end)?;
     Ok(())
 }

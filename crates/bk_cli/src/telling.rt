@@ -3,7 +3,7 @@
 ghost use Rattle.std.specs.Prelude.{◌++◌, codes};
 ghost use Rattle.bk_frames.specs.Device.{CanBeUsed};
 ghost use Rattle.bk_cli.specs.Explanations.{told, told_of};
-ghost use Rattle.bk_cli.specs.FaultLines.{Reports};
+ghost use Rattle.bk_cli.specs.FaultLines.{Pushes, Reports};
 ghost use Rattle.bk_cli.specs.Files.{shown};
 ghost use Rattle.bk_cli.specs.Unopened.{told_unopened};
 
@@ -12,51 +12,30 @@ use crate::explain::in_words;
 use crate::fault_line::{fault_line, report};
 use crate::job::Job;
 use crate::job_fault::JobFault;
-use crate::shown::push_shown;
+use crate::shown::push_line;
 use crate::unopened::{Unopened, why};
-use bk_frames::{Sink, push_all};
+use bk_frames::{Sink, WriteFault, push_all};
 use bk_results::ScriptFault;
 
-// Writes what is said of something, up to the end of its line.
-fn push_words<E: Sink>(words: &[u8], err: &mut E)
+// Writes a line, and then the one that ends so and is about what has this name.
+fn push_both<E: Sink>(line: &[u8], name: &str, end: &[u8], err: &mut E) -> Result<(), WriteFault>
     requires { CanBeUsed (E.state err.old) }
-    ensures { Reports words.now (E.state err.old) (E.state err.new) }
+    ensures { Pushes (line.now ++ (codes "bkreplay: " ++ (shown name.now ++ end.now))) result
+        (E.state err.old) (E.state err.new) }
+{
+    push_all(err, line)?;
+    push_line(name, end, err)?;
+    Ok(())
+}
+
+// Reports both lines.
+fn tell_both<E: Sink>(line: &[u8], name: &str, end: &[u8], err: &mut E)
+    requires { CanBeUsed (E.state err.old) }
+    ensures { Reports (line.now ++ (codes "bkreplay: " ++ (shown name.now ++ end.now)))
+        (E.state err.old) (E.state err.new) }
 {
     // A line that cannot be written is reported nowhere.
-    let _ = push_all(err, words);
-}
-
-// Writes the name of what a fault is about, and then what is said of it.
-fn push_name<E: Sink>(name: &str, words: &[u8], err: &mut E)
-    requires { CanBeUsed (E.state err.old) }
-    ensures { Reports (shown name.now ++ words.now) (E.state err.old) (E.state err.new) }
-{
-    match push_shown(name.as_bytes(), err) {
-        Ok(()) => push_words(words, err),
-        Err(_) => {}
-    }
-}
-
-// Writes the line that says something of what has this name.
-fn push_note<E: Sink>(name: &str, words: &[u8], err: &mut E)
-    requires { CanBeUsed (E.state err.old) }
-    ensures { Reports (codes "bkreplay: " ++ (shown name.now ++ words.now)) (E.state err.old) (E.state err.new) }
-{
-    match push_all(err, b"bkreplay: ") {
-        Ok(()) => push_name(name, words, err),
-        Err(_) => {}
-    }
-}
-
-// Writes the line of a fault, and then the one that says something of what has this name.
-fn push_both<E: Sink>(line: &[u8], name: &str, words: &[u8], err: &mut E)
-    requires { CanBeUsed (E.state err.old) }
-    ensures { Reports (line.now ++ (codes "bkreplay: " ++ (shown name.now ++ words.now))) (E.state err.old) (E.state err.new) }
-{
-    match push_all(err, line) {
-        Ok(()) => push_note(name, words, err),
-        Err(_) => {}
-    }
+    let _ = push_both(line, name, end, err);
 }
 
 /// Reports a fault in its line and, where `verbose` asks for words, in one more line that names the file that it is about.
@@ -67,7 +46,7 @@ pub fn tell_of<E: Sink>(name: &str, verbose: bool, fault: &JobFault, err: &mut E
 {
     if verbose {
         let words = in_words(fault);
-        push_both(fault_line(fault).as_slice(), name, words.as_slice(), err);
+        tell_both(fault_line(fault).as_slice(), name, words.as_slice(), err);
     } else {
         report(fault, err);
     }
@@ -88,7 +67,7 @@ pub fn tell_unopened<E: Sink>(name: &str, verbose: bool, reason: Unopened, err: 
 {
     let fault = JobFault::Text(ScriptFault::Read);
     if verbose {
-        push_both(fault_line(&fault).as_slice(), name, why(reason), err);
+        tell_both(fault_line(&fault).as_slice(), name, why(reason), err);
     } else {
         report(&fault, err);
     }
