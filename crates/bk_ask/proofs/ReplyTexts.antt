@@ -10,8 +10,8 @@ use Rattle.bk_results.specs.declared.query.Reply.TheVariants as reply
 use Rattle.bk_ask.specs.Asking.{Ending, ShowsFound, Lacks, Replies}
 use Rattle.bk_report.specs.Lines.{line_text, text_of}
 use Rattle.std.proofs.lemmas.List.Concat.{flat_map-append}
-use Rattle.bk_report.proofs.LineGroups.{all_items, text_one}
-use Rattle.bk_report.proofs.Putting.{text_next}
+use Rattle.bk_report.proofs.LineGroups.{all_items}
+use Rattle.bk_report.proofs.Putting.{text_next, text_one}
 
 -- a text of one line
 pub one_line : (before after : List ℕ) (l : Line) → before ≡ [] → after ≡ before ++ (line_text l ++ 10 ∷ []) → after ≡ text_of (l ∷ [])
