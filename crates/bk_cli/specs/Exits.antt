@@ -51,28 +51,24 @@ tells_missing other = false
 
 -- what is wrong is said with a no: that something waits, or that there is evidence
 abbrev pub tells_no : Diagnosis → Bool
-tells_no sought.Waiting = true
 tells_no sought.Missing = false
-tells_no sought.Evidence = true
+tells_no other = true
 
 -- it is read off an order, which a feed that is stopped has not
 abbrev pub orders : Diagnosis → Bool
-orders sought.Waiting = true
-orders sought.Missing = true
 orders sought.Evidence = false
+orders other = true
 
 -- it is that batches are missing
 abbrev pub lacks : Diagnosis → Bool
-lacks sought.Waiting = false
 lacks sought.Missing = true
-lacks sought.Evidence = false
+lacks other = false
 
 -- the exit after a diagnosis, by whether something is wrong
 abbrev pub exit_by_lines : Diagnosis → Bool → Exit
 exit_by_lines d false = exit.Whole
-exit_by_lines sought.Waiting true = exit.No
 exit_by_lines sought.Missing true = exit.Missing
-exit_by_lines sought.Evidence true = exit.No
+exit_by_lines other true = exit.No
 
 -- a job whose answer may be no
 abbrev pub gives_verdict : Job → Bool
@@ -93,32 +89,14 @@ may_be_absent other = false
 
 -- a job that may end with no: by its answer, or since what it asks for is absent
 abbrev pub may_say_no : Job → Bool
-may_say_no (job.CheckProof root account file) = true
 may_say_no (job.Ask workers asked file) = gives_state asked || may_be_absent asked
-may_say_no (job.CheckReport workers report file) = true
-may_say_no (job.Diagnose d file) = tells_no d
-may_say_no (job.CheckChain file) = true
-may_say_no other = false
+may_say_no other = gives_verdict other
 
--- a job that refuses bytes: those that are no feed, no script, no list of accounts, no links, no events of a whole run, or
+-- a job that refuses bytes, as all but that of a proof do: those that are no feed, no script, no list of accounts, no links, no events of a whole run, or
 -- feeds of no one setup
 abbrev pub refuses : Job → Bool
-refuses (job.Run workers file) = true
-refuses (job.Make file) = true
 refuses (job.CheckProof root account file) = false
-refuses (job.Ask workers asked file) = true
-refuses (job.CheckReport workers report file) = true
-refuses (job.Frames file) = true
-refuses (job.Summary workers file) = true
-refuses (job.Dag window file) = true
-refuses (job.Apply file) = true
-refuses (job.Schedule workers feed events) = true
-refuses (job.Compare first second) = true
-refuses (job.Show workers shown file) = true
-refuses (job.Pick workers shown accounts file) = true
-refuses (job.Follow workers shown accounts wait file) = true
-refuses (job.Diagnose d file) = true
-refuses (job.CheckChain file) = true
+refuses other = true
 
 -- a job that finds the order of a feed, or compares those of two, which may be stopped
 abbrev pub finds_order : Job → Bool
@@ -203,39 +181,27 @@ exit_by good = if good then exit.Whole else exit.No
 
 -- after a fault of a feed: the bytes are wrong, or reading failed or ran out of memory
 abbrev pub exit_by_code : FaultCode → Exit
-exit_by_code code.Magic = exit.WrongInput
-exit_by_code code.Truncated = exit.WrongInput
-exit_by_code code.Kind = exit.WrongInput
-exit_by_code code.Length = exit.WrongInput
-exit_by_code code.Committee = exit.WrongInput
-exit_by_code code.Genesis = exit.WrongInput
-exit_by_code code.Extra = exit.WrongInput
 exit_by_code code.Read = exit.Failed
 exit_by_code code.Memory = exit.Failed
+exit_by_code other = exit.WrongInput
 
 -- after a feed that was not replayed
 abbrev pub exit_after_replay : Fault → Exit
 exit_after_replay (replay.Feed found) = exit_by_code found.code
 exit_after_replay (replay.Collision id) = exit.Stopped
 exit_after_replay (replay.Equivocation round author first second) = exit.Stopped
-exit_after_replay (replay.Unfinished place) = exit.Failed
-exit_after_replay (replay.Write written) = exit.Failed
-exit_after_replay replay.Memory = exit.Failed
+exit_after_replay other = exit.Failed
 
 -- after a text that has a fault, or was not read or answered
 abbrev pub exit_after_text : ScriptFault → Exit
 exit_after_text (text.Script line found) = exit.WrongInput
-exit_after_text text.Read = exit.Failed
-exit_after_text (text.Write written) = exit.Failed
-exit_after_text text.Memory = exit.Failed
+exit_after_text other = exit.Failed
 
 -- after a list of events that was not read, or that is no whole run
 abbrev pub exit_after_list : ListFault → Exit
 exit_after_list (list.Unread (events.Line line)) = exit.WrongInput
-exit_after_list (list.Unread events.Read) = exit.Failed
-exit_after_list (list.Unread events.Memory) = exit.Failed
 exit_after_list (list.Refused line why) = exit.WrongInput
-exit_after_list (list.Unfinished place) = exit.Failed
+exit_after_list other = exit.Failed
 
 -- after two feeds that differ
 abbrev pub exit_after_differ : Differ → Exit

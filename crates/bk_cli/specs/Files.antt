@@ -37,22 +37,12 @@ file_of (job.CheckChain file) = option_map string_bytes file
 
 -- the path of the second
 abbrev pub second_file_of : Job → Option (List ℕ)
-second_file_of (job.Run workers file) = None
-second_file_of (job.Make file) = None
-second_file_of (job.CheckProof root account file) = None
-second_file_of (job.Ask workers asked file) = None
 second_file_of (job.CheckReport workers report file) = Some (string_bytes report)
-second_file_of (job.Frames file) = None
-second_file_of (job.Summary workers file) = None
-second_file_of (job.Dag window file) = None
-second_file_of (job.Apply file) = None
 second_file_of (job.Schedule workers feed events) = Some (string_bytes events)
 second_file_of (job.Compare first second) = Some (string_bytes second)
-second_file_of (job.Show workers shown file) = None
 second_file_of (job.Pick workers shown accounts file) = Some (string_bytes accounts)
 second_file_of (job.Follow workers shown accounts wait file) = option_map string_bytes accounts
-second_file_of (job.Diagnose d file) = None
-second_file_of (job.CheckChain file) = None
+second_file_of other = None
 
 -- ---- standard input
 
@@ -95,26 +85,20 @@ reads_beside other = false
 
 -- a feed that was not replayed: a failed write is about the output
 abbrev pub replay_about : Fault → FaultSubject
-replay_about (replay.Feed found) = about.First
-replay_about (replay.Collision id) = about.First
-replay_about (replay.Equivocation round author first second) = about.First
-replay_about (replay.Unfinished place) = about.First
 replay_about (replay.Write written) = about.Output
-replay_about replay.Memory = about.First
+replay_about other = about.First
 
 -- a text that was not read or answered; memory that runs out while a text beside a feed is read is said of the feed
 abbrev pub text_about : Job → ScriptFault → FaultSubject
-text_about j (text.Script line found) = about.First
 text_about j text.Read = if reads_beside j then about.Second else about.First
 text_about j (text.Write written) = about.Output
-text_about j text.Memory = about.First
+text_about j other = about.First
 
 -- two feeds: the setup of the second is not that of the first; both together hold a collision or twins
 abbrev pub differ_about : Differ → FaultSubject
-differ_about (differ.Setup part) = about.Second
 differ_about (differ.Collision id) = about.Both
 differ_about (differ.Twins round author first second) = about.Both
-differ_about differ.Memory = about.Second
+differ_about other = about.Second
 
 abbrev pub compare_about : CompareStop → FaultSubject
 compare_about (compared.First e) = replay_about e

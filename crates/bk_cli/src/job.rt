@@ -154,22 +154,12 @@ impl Job {
         ensures { option_map (λ s. s.now) result ≡ second_file_of self.now }
     {
         match self {
-            Job::Run { .. }
-            | Job::Make { .. }
-            | Job::CheckProof { .. }
-            | Job::Ask { .. }
-            | Job::Frames { .. }
-            | Job::Summary { .. }
-            | Job::Dag { .. }
-            | Job::Apply { .. }
-            | Job::Show { .. }
-            | Job::Diagnose { .. }
-            | Job::CheckChain { .. } => None,
             Job::CheckReport { report, .. } => Some(report.as_str()),
             Job::Schedule { events, .. } => Some(events.as_str()),
             Job::Compare { second, .. } => Some(second.as_str()),
             Job::Pick { accounts, .. } => Some(accounts.as_str()),
             Job::Follow { accounts, .. } => accounts.as_deref(),
+            _ => None,
         }
     }
 
