@@ -8,14 +8,17 @@ use Rattle.std.specs.Box.{box_value}
 use Rattle.clap.specs.Simple.{Shape, built, entered, label_of, rows_at, argument_words, names_of, subcommand_rows}
 use Rattle.clap.specs.Walk.{answers_to, stop_after}
 use Rattle.clap.specs.Matches.{subcommand_name_of}
-use Rattle.clap.specs.Words.{App, HasMatchesOf, Row, Text, subcommand_of, subcommand_rows_of}
+use Rattle.clap.specs.Words.{App, HasMatchesOf, Row, Text, first_value, one_text, rows_of, subcommand_of, subcommand_rows_of}
 use Rattle.clap.specs.declared.parser.matches.ArgMatches.{ArgMatches}
 use Rattle.clap.specs.declared.parser.matches.SubCommand.{SubCommand}
 use Rattle.clap.specs.declared.parser.matches.ArgMatches.TheViews.{out-ArgMatches, out-SubCommand}
 use Rattle.clap.specs.Values.{kind_of}
 use Rattle.clap.specs.declared.error.Error.{Error}
 use Rattle.clap.specs.declared.error.kind.ErrorKind.TheVariants as kind
-use Rattle.bk_cli.specs.CommandLine.{IsOfValues, IsOneOf, IsRefusal, all_words}
+use Rattle.clap.proofs.WalkLemmas.{first_value-rows, one_text-rows}
+use Rattle.clap.specs.declared.parser.matches.Found.{Found}
+use Rattle.bk_cli.specs.declared.args.Args.{Args}
+use Rattle.bk_cli.specs.CommandLine.{AreArgs, AreArgsIn, IsOfValues, IsOneOf, IsRefusal, all_words}
 use Rattle.bk_cli.specs.Commands.{command_line, word_of}
 use Rattle.bk_cli.specs.declared.verb.TheConstants.{ALL}
 use Rattle.bk_cli.specs.declared.verb.Verb.{Verb}
@@ -50,6 +53,10 @@ what_is_found m words name rows found named valued =
 -- by the word of its command
 pub found_by_word : (o : Option (Text × List Row)) (name word : Text) (rows : List Row) → o ≡ Some (name, rows) → name ≡ word → o ≡ Some (word, rows)
 found_by_word o name word rows is same = is ∙ ap (λ (t : Text). Some (t, rows)) same
+
+-- the values that were found are those in the rows
+pub args_in_rows : (f : Found) (a : Args) → AreArgs (one_text f) (first_value f) a → AreArgsIn (rows_of f) a
+args_in_rows f a = subst (λ (p : (Text → Option Text) × (Text → Option Text)). AreArgs p.0 p.1 a) (λ j. (λ name. one_text-rows f name j, λ name. first_value-rows f name j))
 
 -- an error of these values is a refusal of the words
 pub refused_at : (words : List Text) (e : Error) (here : Option (Text × List Row)) → subcommand_of command_line words ≡ here

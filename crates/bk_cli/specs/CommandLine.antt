@@ -15,7 +15,6 @@ use Rattle.bk_cli.specs.Windows.{WindowValue}
 use Rattle.bk_cli.specs.declared.args.Args.{Args}
 use Rattle.bk_cli.specs.declared.job.Job.{Job}
 use Rattle.bk_cli.specs.declared.job.Job.TheVariants as job
-use Rattle.bk_cli.specs.declared.notes.Notes.{Notes}
 use Rattle.bk_cli.specs.declared.parsing.Line.{Line}
 use Rattle.bk_cli.specs.declared.view.Diagnosis.TheVariants as sought
 use Rattle.bk_cli.specs.declared.view.Table.{Table}
@@ -91,6 +90,9 @@ pub record AreArgs (one first : Text → Option Text) (a : Args) : Type 0 where
   pub events : IsTextIn (first (codes "EVENTS")) (string_bytes a.events)
   pub feed1 : IsTextIn (first (codes "FEED1")) (string_bytes a.feed1)
   pub feed2 : IsTextIn (first (codes "FEED2")) (string_bytes a.feed2)
+  pub progress : IsOn (one (codes "progress")) a.notes.progress
+  pub verbose : IsOn (one (codes "verbose")) a.notes.verbose
+  pub strict : IsOn (one (codes "strict")) a.strict
 
 -- ---- the job
 
@@ -149,59 +151,37 @@ job_of verb.Compare a = Some (job.Compare a.feed1 a.feed2)
 job_of verb.Link a = Some (job.Show (threads a) view.Link a.file)
 job_of verb.CheckChain a = Some (job.CheckChain a.file)
 
--- the command of this word, with the values in these rows, asks for this job, or for none
-abbrev pub Asks : Text × List Row → Option Job → Type 0
-Asks found made =
-    (v : Verb) × (a : Args) × (found.0 ≡ word_of v)
-    × AreArgs (λ name. one_of name found.1) (λ name. first_of name found.1) a × (made ≡ job_of v a)
+-- what a command line with this job and these values says
+abbrev pub line_with : Args → Job → Line
+line_with a j = record { job = j; notes = a.notes; strict = a.strict }
 
--- the job is that of the command that was found in the words
-abbrev pub IsJobOf : Option (Text × List Row) → Job → Type 0
-IsJobOf None j = ⊥
-IsJobOf (Some found) j = Asks found (Some j)
+-- these are the values in the rows
+abbrev pub AreArgsIn : List Row → Args → Type 0
+AreArgsIn rows a = AreArgs (λ name. one_of name rows) (λ name. first_of name rows) a
 
--- the command that was found in the words asks for no job
-abbrev pub NamesNoJob : Option (Text × List Row) → Type 0
-NamesNoJob None = ⊥
-NamesNoJob (Some found) = Asks found None
-
--- ---- what else is told
-
--- the notes are the values of `--progress` and `--verbose`
-abbrev pub AreNotesIn : List Row → Notes → Type 0
-AreNotesIn rows notes =
-    IsOn (one_of (codes "progress") rows) notes.progress × IsOn (one_of (codes "verbose") rows) notes.verbose
-
--- the notes are those of the command that was found in the words
-abbrev pub AreNotesOf : Option (Text × List Row) → Notes → Type 0
-AreNotesOf None notes = ⊥
-AreNotesOf (Some found) notes = AreNotesIn found.1 notes
-
--- a feed that does not count whole is turned down where `--strict` is given
-abbrev pub IsStrictOf : Option (Text × List Row) → Bool → Type 0
-IsStrictOf None strict = ⊥
-IsStrictOf (Some found) strict = IsOn (one_of (codes "strict") found.1) strict
+-- the command that was found in the words, with its values, asks for this, or for no job
+abbrev pub Asks : Option (Text × List Row) → Option Line → Type 0
+Asks None made = ⊥
+Asks (Some found) made =
+    (v : Verb) × (a : Args) × (found.0 ≡ word_of v) × AreArgsIn found.1 a × (made ≡ option_map (line_with a) (job_of v a))
 
 -- ---- standard input that is named twice
 
 -- the words ask for a job that would read standard input in place of both of its files
 abbrev pub NamesInputTwice : Option (Text × List Row) → Type 0
-NamesInputTwice found = (j : Job) × IsJobOf found j × (reads_input_twice j ≡ true)
+NamesInputTwice found = (l : Line) × Asks found (Some l) × (reads_input_twice l.job ≡ true)
 
 -- ---- values that are refused together with their command
 
--- the error is that of words that name no job, or of standard input that is named twice, and the words have that fault
+-- the error is that of words that ask for no job, or of standard input that is named twice, and the words have that fault
 abbrev pub IsOfValues : Error → Option (Text × List Row) → Type 0
-IsOfValues e found = (kind_of e ≡ kind.ValueValidation) × (NamesNoJob found ⊎ NamesInputTwice found)
+IsOfValues e found = (kind_of e ≡ kind.ValueValidation) × (Asks found None ⊎ NamesInputTwice found)
 
 -- ---- what the words of a command line are read as
 
--- the line is what was found in the words: the job, which reads standard input once at most, and what else is told
-pub record IsLineFor (found : Option (Text × List Row)) (l : Line) : Type 0 where
-  pub job : IsJobOf found l.job
-  pub once : reads_input_twice l.job ≡ false
-  pub notes : AreNotesOf found l.notes
-  pub strict : IsStrictOf found l.strict
+-- the line is what was found in the words, and reads standard input once at most
+abbrev pub IsLineFor : Option (Text × List Row) → Line → Type 0
+IsLineFor found l = Asks found (Some l) × (reads_input_twice l.job ≡ false)
 
 -- the words have no fault, and this is their line
 pub record IsLineOf (words : List Text) (l : Line) : Type 0 where

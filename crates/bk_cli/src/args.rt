@@ -5,7 +5,7 @@ ghost use Rattle.clap.specs.Words.{one_text, first_value, found_of};
 ghost use Rattle.bk_cli.specs.CommandLine.{AreArgs, IsChosenBy, IsDigestIn, IsGivenBy, IsNumberBy, IsTextIn, IsWindowIn};
 
 use crate::links::links_in;
-use crate::notes::flag_in;
+use crate::notes::{Notes, flag_in};
 use crate::window::{MOST_FROM, MOST_ROUNDS, Window};
 use bk_base::Workers;
 use bk_digest::Digest32;
@@ -34,6 +34,8 @@ pub(crate) struct Args {
     pub events: String,
     pub feed1: String,
     pub feed2: String,
+    pub notes: Notes,
+    pub strict: bool,
 }
 
 // The value of `--workers`, where it is given.
@@ -125,6 +127,11 @@ impl Args {
             follow: flag_in(found, "follow"),
             wait: flag_in(found, "wait"),
             digest: digest_in(found),
+            notes: Notes {
+                progress: flag_in(found, "progress"),
+                verbose: flag_in(found, "verbose"),
+            },
+            strict: flag_in(found, "strict"),
             file: file_in(alloc, found, "FILE")?,
             accounts: file_in(alloc, found, "accounts")?,
             root: text_in(alloc, found, "ROOT")?,

@@ -1,9 +1,7 @@
 //! The job of each command, with the values of its arguments.
 
-ghost use Rattle.std.specs.Prelude.{◌≡◌, IfOk, Some};
-ghost use Rattle.clap.specs.Words.{found_of, rows_of};
-ghost use Rattle.bk_cli.specs.CommandLine.{Asks, job_of, rows_job, table_job, view_of, waits_in_vain};
-ghost use Rattle.bk_cli.specs.Commands.{word_of};
+ghost use Rattle.std.specs.Prelude.{◌≡◌, Some};
+ghost use Rattle.bk_cli.specs.CommandLine.{job_of, rows_job, table_job, view_of, waits_in_vain};
 ghost use Rattle.bk_cli.specs.declared.job.Job.TheVariants as job;
 
 use crate::args::Args;
@@ -12,8 +10,6 @@ use crate::verb::Verb;
 use crate::view::{Diagnosis, Table, View};
 use bk_base::Workers;
 use bk_results::Query;
-use clap::ArgMatches;
-use std::alloc::{AllocError, Global};
 
 // What is shown where all rows of a table are.
 fn whole(shown: Table) -> View
@@ -82,8 +78,9 @@ fn ask_one(asked: Query, file: Option<String>) -> Option<Job>
     })
 }
 
-// The job of a command with these values.
-fn job_of(verb: Verb, args: Args) -> Option<Job>
+/// The job of a command with these values. There is none where a ROOT has to be a digest and is not, where the value of
+/// `--links` is none of its words, and where `--wait` is given and no file can grow.
+pub(crate) fn job_of(verb: Verb, args: Args) -> Option<Job>
     ensures { result ≡ job_of verb args }
 {
     let workers = args.workers.unwrap_or(Workers::one());
@@ -163,17 +160,4 @@ fn job_of(verb: Verb, args: Args) -> Option<Job>
         }),
         Verb::CheckChain => Some(Job::CheckChain { file: args.file }),
     }
-}
-
-/// The job of a command, with the values of its arguments. There is none where a ROOT has to be a digest and is not, where
-/// the value of `--links` is none of its words, and where `--wait` is given and no file can grow.
-pub(crate) fn job_in(
-    alloc: Global,
-    verb: Verb,
-    found: &ArgMatches<'_>,
-) -> Result<Option<Job>, AllocError>
-    ensures { IfOk result (λ made. Asks (word_of verb, rows_of (found_of found.now)) made) }
-{
-    let args = Args::found_in(alloc, found)?;
-    Ok(job_of(verb, args))
 }

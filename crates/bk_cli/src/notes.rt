@@ -1,8 +1,7 @@
 //! What else is written to standard error.
 
-ghost use Rattle.std.specs.Prelude.{codes};
-ghost use Rattle.clap.specs.Words.{found_of, one_of, one_text, rows_of};
-ghost use Rattle.bk_cli.specs.CommandLine.{AreNotesIn, IsOn};
+ghost use Rattle.clap.specs.Words.{found_of, one_text};
+ghost use Rattle.bk_cli.specs.CommandLine.{IsOn};
 
 use clap::ArgMatches;
 
@@ -20,23 +19,4 @@ pub(crate) fn flag_in(found: &ArgMatches<'_>, name: &str) -> bool
     ensures { IsOn (one_text (found_of found.now) name.now) result }
 {
     found.get_flag(name)
-}
-
-/// The value of `--strict`.
-pub(crate) fn strict_in(found: &ArgMatches<'_>) -> bool
-    ensures { IsOn (one_of (codes "strict") (rows_of (found_of found.now))) result }
-{
-    flag_in(found, "strict")
-}
-
-impl Notes {
-    /// The values of `--progress` and `--verbose`.
-    pub(crate) fn found_in(found: &ArgMatches<'_>) -> Notes
-        ensures { AreNotesIn (rows_of (found_of found.now)) result }
-    {
-        Notes {
-            progress: flag_in(found, "progress"),
-            verbose: flag_in(found, "verbose"),
-        }
-    }
 }

@@ -7,10 +7,11 @@ ghost use Rattle.bk_cli.specs.CommandLine.{IsLineFor, IsLineOf, IsOfValues, IsRe
 ghost use Rattle.bk_cli.specs.Commands.{command_line, word_of};
 ghost use Rattle.bk_cli.specs.Words.{settled};
 
+use crate::args::Args;
 use crate::commands::{command, command_of};
 use crate::job::{Job, sole};
-use crate::making::job_in;
-use crate::notes::{Notes, strict_in};
+use crate::making::job_of;
+use crate::notes::Notes;
 use crate::verb::Verb;
 use crate::words::settle;
 use clap::error::ErrorKind;
@@ -75,14 +76,14 @@ fn line_of(alloc: Global, verb: Verb, found: &ArgMatches<'_>) -> Result<Line, Er
     ensures error { IfErr result (λ e. (kind_of e ≡ ErrorKind.OutOfMemory)
         ⊎ IsOfValues e (Some (word_of verb, rows_of (found_of found.now)))) }
 {
-    let Some(job) = job_in(alloc, verb, found)? else {
+    let args = Args::found_in(alloc, found)?;
+    let (notes, strict) = (args.notes, args.strict);
+    let Some(job) = job_of(verb, args) else {
         return Err(no_job(alloc, verb)?);
     };
     let Some(job) = sole(job) else {
         return Err(input_twice(alloc)?);
     };
-    let notes = Notes::found_in(found);
-    let strict = strict_in(found);
     Ok(Line { job, notes, strict })
 }
 

@@ -1,28 +1,34 @@
--- The job that the command asks for, or that it asks for none.
-use Rattle.std.proofs.Common.{inl, inr, subst, sym, ◌∙◌, Some}
-use Rattle.clap.specs.Words.{rows_of, found_of}
-use Rattle.bk_cli.specs.CommandLine.{Asks}
-use Rattle.bk_cli.specs.Commands.{word_of}
+-- What the command asks for, or that it asks for no job.
+use Rattle.std.proofs.Common.{inl, inr, ap, refl, sym, ◌∙◌, Some}
+use Rattle.std.specs.Prelude.{option_map}
+use Rattle.clap.specs.Words.{found_of}
+use Rattle.bk_cli.specs.CommandLine.{line_with}
 use Rattle.bk_cli.specs.declared.job.Job.{Job}
-use Rattle.bk_cli.proofs.WordLemmas.{is_sole, is_twice}
+use Rattle.bk_cli.proofs.WordLemmas.{args_in_rows, is_sole, is_twice}
 use Rattle.bk_cli.proofs.parsing.line_of.Goals as goal
 
 pub returns-in_default-clause-error : goal.returns-in_default-clause-error
 returns-in_default-clause-error c =
-    inr (c.in_ok-no_job.ensures, inl (subst (Asks (word_of c.args.verb, rows_of (found_of c.args.found.now))) c.in_default.is c.in_ok-job.ensures))
+    let a = c.in_ok-args.args in
+    let made = ap (option_map (line_with a)) (sym c.in_default.is ∙ c.job_of.ensures) in
+    inr (c.in_ok-no_job.ensures, inl (c.args.verb, a, refl, args_in_rows (found_of c.args.found.now) a c.in_ok-args.ensures, made))
 
 pub returns-in_default-sole-clause-error : goal.returns-in_default-sole-clause-error
 returns-in_default-sole-clause-error c =
-    let asked = subst (Asks (word_of c.args.verb, rows_of (found_of c.args.found.now))) c.in-Some.is c.in_ok-job.ensures in
-    inr (c.in_ok-input_twice.ensures, inr (c.in-Some.job, asked, is_twice c.in-Some.job (sym c.sole.ensures ∙ c.in_default-sole.is)))
+    let a = c.in_ok-args.args in
+    let made = ap (option_map (line_with a)) (sym c.in-Some.is ∙ c.job_of.ensures) in
+    inr (
+      c.in_ok-input_twice.ensures,
+      inr (
+        line_with a c.in-Some.job,
+        (c.args.verb, a, refl, args_in_rows (found_of c.args.found.now) a c.in_ok-args.ensures, made),
+        is_twice c.in-Some.job (sym c.sole.ensures ∙ c.in_default-sole.is),
+      ),
+    )
 
 pub returns-clause-line : goal.returns-clause-line
 returns-clause-line c =
-    let asks = Asks (word_of c.args.verb, rows_of (found_of c.args.found.now)) in
+    let a = c.in_ok-args.args in
     let one = is_sole c.in-Some.job c.in-Some-sole.job (sym c.sole.ensures ∙ c.in-Some-sole.is) in
-    record {
-      job = subst (λ (j : Job). asks (Some j)) one.0 (subst asks c.in-Some.is c.in_ok-job.ensures);
-      once = one.1;
-      notes = c.found_in-notes.ensures;
-      strict = c.strict_in-strict.ensures;
-    }
+    let made = ap (λ (j : Job). Some (line_with a j)) (sym one.0) ∙ ap (option_map (line_with a)) (sym c.in-Some.is ∙ c.job_of.ensures) in
+    ((c.args.verb, a, refl, args_in_rows (found_of c.args.found.now) a c.in_ok-args.ensures, made), one.1)
