@@ -1,60 +1,51 @@
 -- The order of a feed that is closed.
-use Rattle.std.proofs.Common.{◌≡◌, ℕ, List, [], Option, Some, None, refl, sym, ap, ◌∙◌}
-use Rattle.bk_frames.specs.Cutting.{Cut}
-use Rattle.bk_base.specs.Feed.{Frame, FeedValue}
-use Rattle.bk_committee.specs.Payload.{CommitteeValue}
+use Rattle.std.proofs.Common.{◌≡◌, List, Option, subst}
+use Rattle.bk_base.specs.declared.version.Version.{Version}
+use Rattle.bk_cert.specs.declared.place.CertRef.{CertRef}
 use Rattle.bk_results.specs.declared.fault.Fault.{Fault}
 use Rattle.bk_results.specs.declared.fault.Fault.TheVariants as fault
+use Rattle.bk_answer.specs.RunReport.{IsStopIn}
+use Rattle.bk_frames.proofs.CutJoining.{ends_as_feed}
 use Rattle.bk_follow.specs.Finishing.{ClosesOrder, CloseOrderFails}
-use Rattle.bk_follow.specs.Follower.{BookValue, Followed, HasCome, executed_in}
-use Rattle.bk_follow.specs.Ordering.{IsOrdered}
-use Rattle.bk_answer.specs.RunReport.{HasNoStopIn, IsStopIn}
-use Rattle.bk_follow.specs.Stopping.{kept_fault}
-use Rattle.bk_follow.specs.private.Books.{IsGoodBook}
-use Rattle.bk_follow.specs.private.Ordered.{BookOrderFails}
-use Rattle.bk_follow.specs.private.Parts.{OrdersNot, after_fault}
-use Rattle.bk_follow.proofs.Following.{follower_of, good_of, come_on, of_feed}
+use Rattle.bk_follow.specs.Follower.{Followed, broken}
+use Rattle.bk_follow.specs.Ordering.{FindsOrder, IsOrdered, IsOrderedBy, OrderFails}
+use Rattle.bk_follow.specs.Queries.{EndsNot}
+use Rattle.bk_follow.specs.private.Parts.{EndsHere}
+use Rattle.bk_follow.proofs.Following.{book_of_end, of_end}
 
--- the order of a book that was settled is that of the feed
-pub closes_order : (bytes : List ℕ) (frames : List Frame) (cut : Cut) (committee : Option CommitteeValue) (book : Option BookValue) (b new : BookValue) → HasCome bytes frames (follower_of cut committee book None) → book ≡ Some b → cut.kept ≡ []
-    → ((feed : FeedValue) → IsGoodBook feed b → IsOrdered feed new) → new.executed ≡ b.executed → ClosesOrder (follower_of cut committee book None) (follower_of cut committee (Some new) None)
-closes_order bytes frames cut committee book b new came is none ordered same = record {
-  come = (bytes, frames, came);
-  stays = λ bs fs come.
-      let g = good_of bs fs (follower_of cut committee book None) b come is in
-      come_on bs fs cut committee new None (follower_of cut committee book None) b refl come g refl (ordered _ g.good).book;
-  cut = refl;
-  executed = same ∙ sym (ap executed_in is);
-  ordered = of_feed (follower_of cut committee book None) b (λ feed. (c : BookValue) × (Some new ≡ Some c) × IsOrdered feed c) is none (λ feed good book_good. (new, refl, ordered feed book_good));
-}
+-- the order of the frames of a feed that ends here is that of the feed
+pub closes_order : (old mid new : Followed) (anchors certs : List CertRef) → EndsHere old → mid ≡ old → FindsOrder mid new anchors certs → ClosesOrder old new
+closes_order old mid new anchors certs ends same found =
+    let f = subst (λ (v : Followed). FindsOrder v new anchors certs) same found in
+    record {
+      come = ends.come;
+      stays = λ bytes frames come. (f.come bytes frames come).0;
+      cut = f.cut;
+      executed = f.executed;
+      ordered = book_of_end old new (λ feed b. IsOrdered feed b) ends f.cut (λ bytes frames come.
+          let after = f.come bytes frames come in
+          (after.0, λ version known. subst (λ (w : Option Version). IsOrderedBy w frames new.book) known after.1));
+    }
 
--- why the order of the book was not settled is why it was not closed
-pub orders_not : (f : Fault) (cut : Cut) (committee : Option CommitteeValue) (book : Option BookValue) (b new : BookValue) → book ≡ Some b → cut.kept ≡ [] → BookOrderFails b new f
-    → OrdersNot (follower_of cut committee book None) (follower_of cut committee (Some new) None) f
-orders_not (fault.Feed found) cut committee book b new is none h = absurd h
-orders_not (fault.Collision id) cut committee book b new is none h =
-    (of_feed (follower_of cut committee book None) b (λ feed. IsStopIn feed (fault.Collision id)) is none (λ feed _ good. h.1 feed good), (λ i. follower_of cut committee ((ap Some h.0 ∙ sym is) i) None))
-orders_not (fault.Equivocation round author first second) cut committee book b new is none h =
-    (of_feed (follower_of cut committee book None) b (λ feed. IsStopIn feed (fault.Equivocation round author first second)) is none (λ feed _ good. h.1 feed good), (λ i. follower_of cut committee ((ap Some h.0 ∙ sym is) i) None))
-orders_not (fault.Unfinished place) cut committee book b new is none h = absurd h
-orders_not (fault.Write written) cut committee book b new is none h = absurd h
-orders_not fault.Memory cut committee book b new is none h =
-    of_feed (follower_of cut committee book None) b HasNoStopIn is none (λ feed _ good. h feed good)
+-- why it does not end here is why its order was not closed
+pub order_unended : (f : Fault) (old new : Followed) → EndsNot old f × (new ≡ broken f) → CloseOrderFails old new f
+order_unended (fault.Feed found) old new h = h
+order_unended (fault.Collision id) old new h = absurd h.0
+order_unended (fault.Equivocation round author first second) old new h = absurd h.0
+order_unended (fault.Unfinished place) old new h = absurd h.0
+order_unended (fault.Write written) old new h = absurd h.0
+order_unended fault.Memory old new h = absurd h.0
 
--- after a fault that is not kept everything is as it was
-pub order_stop_same : (f : Fault) (old new : Followed) → kept_fault f ≡ None → OrdersNot old new f → new ≡ old
-order_stop_same (fault.Feed found) old new none h = absurd cc
-order_stop_same (fault.Collision id) old new none h = h.1
-order_stop_same (fault.Equivocation round author first second) old new none h = h.1
-order_stop_same (fault.Unfinished place) old new none h = absurd h
-order_stop_same (fault.Write written) old new none h = absurd h
-order_stop_same fault.Memory old new none h = absurd cc
-
--- with the fault that is kept after it
-pub close_order_fails : (f : Fault) (old new now : Followed) → now ≡ after_fault f new → OrdersNot old new f → CloseOrderFails old now f
-close_order_fails (fault.Feed found) old new now e h = (h, e)
-close_order_fails (fault.Collision id) old new now e h = (h.0, e ∙ h.1)
-close_order_fails (fault.Equivocation round author first second) old new now e h = (h.0, e ∙ h.1)
-close_order_fails (fault.Unfinished place) old new now e h = absurd h
-close_order_fails (fault.Write written) old new now e h = absurd h
-close_order_fails fault.Memory old new now e h = (h, e)
+-- and so is why it was not found
+pub order_unsettled : (f : Fault) (old new : Followed) → EndsHere old → OrderFails old new f → CloseOrderFails old new f
+order_unsettled (fault.Feed found) old new ends h = absurd h
+order_unsettled (fault.Collision id) old new ends h = (of_end old (λ feed. IsStopIn feed (fault.Collision id)) ends h.1, h.0)
+order_unsettled (fault.Equivocation round author first second) old new ends h = (of_end old (λ feed. IsStopIn feed (fault.Equivocation round author first second)) ends h.1, h.0)
+order_unsettled (fault.Unfinished place) old new ends h = absurd h
+order_unsettled (fault.Write written) old new ends h = absurd h
+order_unsettled fault.Memory old new ends h = (
+  λ bytes frames come.
+      let end = ends_as_feed bytes frames old.cut come.cuts ends.kept ends.two in
+      record { version = end.0; known = end.1; good = end.2; spelled = end.3; holds = h.1 bytes frames end.0 come end.1 end.2.opened },
+  h.0,
+)

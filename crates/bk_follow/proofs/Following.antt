@@ -11,14 +11,13 @@ use Rattle.bk_frames.proofs.CutJoining.{bytes_so_far, ends_as_feed}
 use Rattle.bk_committee.specs.Payload.{CommitteeValue}
 use Rattle.bk_results.specs.declared.fault.Fault.{Fault}
 use Rattle.bk_results.specs.declared.fault.Fault.TheVariants as fault
-use Rattle.bk_results.specs.declared.status.Status.{Status}
 use Rattle.bk_results.specs.Devices.{IsUntouched}
-use Rattle.bk_answer.specs.Answers.{TextIsOut, TextStops}
-use Rattle.bk_answer.specs.RunReport.{HasNoStopIn, IsReportOf, IsStopIn, HasPlaceIn}
+use Rattle.bk_answer.specs.RunReport.{HasNoStopIn, IsStopIn, HasPlaceIn}
 use Rattle.bk_follow.specs.Follower.{BookValue, Followed, IsBookOf, IsCurrent, FollowsBy, Follows, HasCome, Settles, SettleFails, OfFrames, IsSettledBy, receipts_of_executed, receipts_in, broken, unfed}
-use Rattle.bk_follow.specs.Finishing.{OfFeed, Closes, CloseFails, Finishes, FinishFails}
-use Rattle.bk_follow.specs.private.Books.{IsGoodBook, BookSettleFails, WritesBook, WriteFails}
-use Rattle.bk_follow.specs.private.Parts.{ClosesNot, EndFails, after_fault}
+use Rattle.bk_follow.specs.Finishing.{OfFeed, Closes, CloseFails}
+use Rattle.bk_follow.specs.private.Books.{IsGoodBook, BookSettleFails}
+use Rattle.bk_follow.specs.private.Parts.{EndsHere, after_fault}
+use Rattle.bk_follow.specs.Queries.{EndsNot}
 use Rattle.bk_follow.specs.Stopping.{kept_fault}
 use Rattle.bk_follow.proofs.Openings.{with_book, follows_book}
 
@@ -141,32 +140,65 @@ of_feed v b holds is none h = λ bytes frames come.
 pub untouched : (d : Device) → IsUntouched d d
 untouched d = (refl, Keeps-refl d.bytes)
 
--- why the book was not settled is why the feed was not closed
-pub closes_not : (f : Fault) (cut : Cut) (committee : Option CommitteeValue) (book : Option BookValue) (b new : BookValue) → book ≡ Some b → cut.kept ≡ [] → BookSettleFails b new f
-    → ClosesNot (follower_of cut committee book None) (follower_of cut committee (Some new) None) f
-closes_not (fault.Feed found) cut committee book b new is none h = absurd h
-closes_not (fault.Collision id) cut committee book b new is none h =
-    (of_feed (follower_of cut committee book None) b (λ feed. IsStopIn feed (fault.Collision id)) is none (λ feed _ good. h.1 feed good), (λ i. follower_of cut committee ((ap Some h.0 ∙ sym is) i) None))
-closes_not (fault.Equivocation round author first second) cut committee book b new is none h =
-    (of_feed (follower_of cut committee book None) b (λ feed. IsStopIn feed (fault.Equivocation round author first second)) is none (λ feed _ good. h.1 feed good), (λ i. follower_of cut committee ((ap Some h.0 ∙ sym is) i) None))
-closes_not (fault.Unfinished place) cut committee book b new is none h =
-    (of_feed (follower_of cut committee book None) b (λ feed. HasPlaceIn feed place) is none (λ feed _ good. h.0 feed good), subst (λ (o : Option BookValue). length (receipts_in o) ≤ place) (sym is) h.1)
-closes_not (fault.Write written) cut committee book b new is none h = absurd h
-closes_not fault.Memory cut committee book b new is none h =
-    of_feed (follower_of cut committee book None) b HasNoStopIn is none (λ feed _ good. h feed good)
+there_is : (book : Option BookValue) (P : BookValue → Type 0) → (book ≡ None → ⊥) → IfSome book P → (b : BookValue) × (book ≡ Some b) × P b
+there_is None P some h = absurd (some refl)
+there_is (Some b) P some h = (b, refl, h)
 
--- a book that was settled is that of the feed
-pub closes : (bytes : List ℕ) (frames : List Frame) (cut : Cut) (committee : Option CommitteeValue) (book : Option BookValue) (b new : BookValue) → HasCome bytes frames (follower_of cut committee book None) → book ≡ Some b → cut.kept ≡ []
-    → ((feed : FeedValue) → IsGoodBook feed b → IsCurrent feed new) → Closes (follower_of cut committee book None) (follower_of cut committee (Some new) None)
-closes bytes frames cut committee book b new came is none current = record {
-  come = (bytes, frames, came);
-  settled = λ bs fs come.
-      let g = good_of bs fs (follower_of cut committee book None) b come is in
-      let now = current (feed_of g.version fs) g.good in
-      (come_on bs fs cut committee new None (follower_of cut committee book None) b refl come g refl now.book, settled_by g.version cut.version fs new g.known now);
-  cut = refl;
-  current = of_feed (follower_of cut committee book None) b (λ feed. (c : BookValue) × (Some new ≡ Some c) × IsCurrent feed c) is none (λ feed good book_good. (new, refl, current feed book_good));
-}
+-- what holds of the whole frames so far holds of the feed that ends here
+pub of_end : (v : Followed) (holds : FeedValue → Type 0) → EndsHere v → OfFrames v holds → OfFeed v holds
+of_end v holds ends h = λ bytes frames come.
+    let end = ends_as_feed bytes frames v.cut come.cuts ends.kept ends.two in
+    let o = h bytes frames come in
+    let same : o.0 ≡ end.0 = let e : Some o.0 ≡ Some end.0 = sym o.1 ∙ end.1 in cc in
+    record { version = end.0; known = end.1; good = end.2; spelled = end.3; holds = subst (λ (w : Version). holds (feed_of w frames)) same o.2 }
+
+-- what holds of the book of each version holds of the one of the feed
+pub book_of_end : (old new : Followed) (P : FeedValue → BookValue → Type 0) → EndsHere old → new.cut ≡ old.cut
+    → ((bytes : List ℕ) (frames : List Frame) → HasCome bytes frames old → HasCome bytes frames new × ((version : Version) → new.cut.version ≡ Some version → IfSome new.book (P (feed_of version frames))))
+    → OfFeed old (λ feed. (b : BookValue) × (new.book ≡ Some b) × P feed b)
+book_of_end old new P ends same h = λ bytes frames come.
+    let end = ends_as_feed bytes frames old.cut come.cuts ends.kept ends.two in
+    let after = h bytes frames come in
+    record {
+      version = end.0;
+      known = end.1;
+      good = end.2;
+      spelled = end.3;
+      holds = there_is new.book (P (feed_of end.0 frames))
+          (book_at_end bytes frames new after.0 (ap (λ (c : Cut). c.kept) same ∙ ends.kept) (subst (λ (c : Cut). 2 ≤ c.index) (sym same) ends.two))
+          (after.1 end.0 (ap (λ (c : Cut). c.version) same ∙ end.1));
+    }
+
+-- a settle of a feed that ends here closes it
+pub closes : (old mid new : Followed) (n : ℕ) → EndsHere old → mid ≡ old → Settles mid new n → Closes old new
+closes old mid new n ends same settled =
+    let s = subst (λ (v : Followed). Settles v new n) same settled in
+    record {
+      come = ends.come;
+      settled = s.settled;
+      cut = s.cut;
+      current = book_of_end old new (λ feed b. IsCurrent feed b) ends s.cut (λ bytes frames come.
+          let after = s.settled bytes frames come in
+          (after.0, λ version known. subst (λ (w : Option Version). IsSettledBy w frames new.book) known after.1));
+    }
+
+-- why it does not end here is why it was not closed
+pub close_unended : (f : Fault) (old new : Followed) → EndsNot old f × (new ≡ broken f) → CloseFails old new f
+close_unended (fault.Feed found) old new h = h
+close_unended (fault.Collision id) old new h = absurd h.0
+close_unended (fault.Equivocation round author first second) old new h = absurd h.0
+close_unended (fault.Unfinished place) old new h = absurd h.0
+close_unended (fault.Write written) old new h = absurd h.0
+close_unended fault.Memory old new h = absurd h.0
+
+-- and so is why it was not settled
+pub close_unsettled : (f : Fault) (old new : Followed) → EndsHere old → SettleFails old new f → CloseFails old new f
+close_unsettled (fault.Feed found) old new ends h = absurd h
+close_unsettled (fault.Collision id) old new ends h = (of_end old (λ feed. IsStopIn feed (fault.Collision id)) ends h.1, h.0)
+close_unsettled (fault.Equivocation round author first second) old new ends h = (of_end old (λ feed. IsStopIn feed (fault.Equivocation round author first second)) ends h.1, h.0)
+close_unsettled (fault.Unfinished place) old new ends h = (of_end old (λ feed. HasPlaceIn feed place) ends h.1, h.0, h.2)
+close_unsettled (fault.Write written) old new ends h = absurd h
+close_unsettled fault.Memory old new ends h = (of_end old HasNoStopIn ends h.1, h.0)
 
 some_book : (b c : BookValue) → Some b ≡ Some c → b ≡ c
 some_book b c same = cc
@@ -190,71 +222,9 @@ settled_now old new closed =
 pub book_of_closed : (old new : Followed) → Closes old new → new.book ≡ None → ⊥
 book_of_closed old new closed none = let s = settled_now old new closed in absurd (let e : None ≡ Some s.2 = sym none ∙ s.3 in cc)
 
-pub settled_book : (old new : Followed) (b : BookValue) → Closes old new → new.book ≡ Some b → (feed : FeedValue) × IsFeed feed × IsCurrent feed b
-settled_book old new b closed is = let s = settled_now old new closed in (s.0, s.1, current_of s.0 new.book b is (s.2, s.3, s.4))
-
--- why the feed was not closed is why there is no report
-pub end_close_fails : (f : Fault) (old new : Followed) (sink : Device) → ClosesNot old new f → EndFails old new sink sink f
-end_close_fails (fault.Feed found) old new sink h = (h, untouched sink)
-end_close_fails (fault.Collision id) old new sink h = (h.0, h.1, untouched sink)
-end_close_fails (fault.Equivocation round author first second) old new sink h = (h.0, h.1, untouched sink)
-end_close_fails (fault.Unfinished place) old new sink h = (h.0, untouched sink, h.1)
-end_close_fails (fault.Write written) old new sink h = absurd h
-end_close_fails fault.Memory old new sink h = (h, untouched sink)
-
--- why the report was not written is why there is none
-pub end_write_fails : (f : Fault) (old new : Followed) (b : BookValue) (before after : Device) → Closes old new → new.book ≡ Some b → WriteFails b before after f → EndFails old new before after f
-end_write_fails (fault.Feed found) old new b before after closed is h = absurd h
-end_write_fails (fault.Collision id) old new b before after closed is h = absurd h
-end_write_fails (fault.Equivocation round author first second) old new b before after closed is h = absurd h
-end_write_fails (fault.Unfinished place) old new b before after closed is h = absurd h
-end_write_fails (fault.Write written) old new b before after closed is h = (on_closed old new b (λ feed. (answer : Status) × TextStops (IsReportOf feed answer) written before after) closed is (λ feed good current. h.0 feed (good, current)), h.1)
-end_write_fails fault.Memory old new b before after closed is h = (on_closed old new b HasNoStopIn closed is (λ feed good current. current.clear), h)
-
--- a report of the book is that of the feed
-pub finishes : (old new : Followed) (b : BookValue) (before after : Device) (answer : Status) → Closes old new → new.book ≡ Some b → WritesBook b before after answer → Finishes old new before after answer
-finishes old new b before after answer closed is h = record {
-  settled = closed.settled;
-  cut = closed.cut;
-  report = on_closed old new b (λ feed. TextIsOut (IsReportOf feed answer) before after) closed is (λ feed good current. h.0 feed (good, current));
-  works = h.1;
-}
-
--- after a fault that is not kept everything is as it was
-pub close_stop_same : (f : Fault) (old new : Followed) → kept_fault f ≡ None → ClosesNot old new f → new ≡ old
-close_stop_same (fault.Feed found) old new none h = absurd cc
-close_stop_same (fault.Collision id) old new none h = h.1
-close_stop_same (fault.Equivocation round author first second) old new none h = h.1
-close_stop_same (fault.Unfinished place) old new none h = absurd cc
-close_stop_same (fault.Write written) old new none h = absurd cc
-close_stop_same fault.Memory old new none h = absurd cc
-
--- with the fault that is kept after it
-pub close_fails : (f : Fault) (old new now : Followed) → now ≡ after_fault f new → ClosesNot old new f → CloseFails old now f
-close_fails (fault.Feed found) old new now e h = (h, e)
-close_fails (fault.Collision id) old new now e h = (h.0, e ∙ h.1)
-close_fails (fault.Equivocation round author first second) old new now e h = (h.0, e ∙ h.1)
-close_fails (fault.Unfinished place) old new now e h = (h.0, e, h.1)
-close_fails (fault.Write written) old new now e h = absurd h
-close_fails fault.Memory old new now e h = (h, e)
-
--- after a fault that is not kept everything is as it was
-pub end_stop_same : (f : Fault) (old new : Followed) (before after : Device) → kept_fault f ≡ None → EndFails old new before after f → new ≡ old
-end_stop_same (fault.Feed found) old new before after none h = absurd cc
-end_stop_same (fault.Collision id) old new before after none h = h.1
-end_stop_same (fault.Equivocation round author first second) old new before after none h = h.1
-end_stop_same (fault.Unfinished place) old new before after none h = absurd cc
-end_stop_same (fault.Write written) old new before after none h = absurd cc
-end_stop_same fault.Memory old new before after none h = absurd cc
-
--- with the fault that is kept after it
-pub finish_fails : (f : Fault) (old new now : Followed) (before after : Device) → now ≡ after_fault f new → EndFails old new before after f → FinishFails old now before after f
-finish_fails (fault.Feed found) old new now before after e h = (h.0, e, h.1)
-finish_fails (fault.Collision id) old new now before after e h = (h.0, e ∙ h.1, h.2)
-finish_fails (fault.Equivocation round author first second) old new now before after e h = (h.0, e ∙ h.1, h.2)
-finish_fails (fault.Unfinished place) old new now before after e h = (h.0, e, h.1, h.2)
-finish_fails (fault.Write written) old new now before after e h = (h.0, e, h.1)
-finish_fails fault.Memory old new now before after e h = (h.0, e, h.1)
+-- a Follower that works keeps no fault
+pub no_fault : (stands : Option Fault) (P : Fault → Type 0) → stands ≡ None → IfSome stands P
+no_fault stands P none = subst (λ (o : Option Fault). IfSome o P) (sym none) tt
 
 -- a stop leaves all as it was
 unkept : (f : Fault) (left : Followed) → kept_fault f ≡ None → after_fault f left ≡ left

@@ -1,12 +1,11 @@
--- Pulling a group of frames: its pieces one after another, and the frames that waited taken beside it.
-use Rattle.std.proofs.Common.{◌≡◌, ℕ, ◌+◌, ◌<◌, ◌≤◌, List, [], ◌++◌, Bool, true, false, Option, Some, None, refl, sym, ap, subst, ◌∙◌, arith, append_assoc, length-append}
+-- Pulling a group of frames: its pieces one after another.
+use Rattle.std.proofs.Common.{◌≡◌, ℕ, ◌+◌, ◌<◌, ◌≤◌, List, [], ◌++◌, Bool, true, false, refl, sym, ap, subst, ◌∙◌, arith, append_assoc, length-append}
 use Rattle.std.specs.Prelude.{Result, Ok, Err, OnOk}
 use Rattle.std.specs.Global.{Vec}
 use Rattle.std.proofs.lemmas.List.{append-nil, map-append}
 use Rattle.bk_base.specs.declared.kind.Kind.{Kind}
-use Rattle.bk_base.specs.declared.version.Version.{Version}
 use Rattle.bk_frames.specs.declared.fault.FeedFault.{FeedFault}
-use Rattle.bk_frames.specs.Device.{Device, CanBeUsed, Ends, Works, GaveAll, IsWhole}
+use Rattle.bk_frames.specs.Device.{Device, CanBeUsed, Ends, IsWhole}
 use Rattle.bk_base.specs.Feed.{Frame}
 use Rattle.bk_frames.specs.Cutting.{Cut, Cuts, in_magic, past_magic, in_frames, CutsInto, fresh, frames_in}
 use Rattle.bk_frames.specs.Pulling.{Refuses}
@@ -14,10 +13,7 @@ use Rattle.bk_frames.specs.Reading.{IsPulled, Pulls, room_of}
 use Rattle.bk_frames.proofs.CutJoining.{cuts_then}
 use Rattle.bk_frames.proofs.Devices.{ends_not_then, ends_not_yet}
 use Rattle.bk_frames.proofs.Pulls.{at_end}
-use Rattle.bk_follow.specs.declared.gathering.Inbox.{Inbox}
-use Rattle.bk_follow.specs.private.Gathering.{HasGathered, HasPulled, CanTake, TakesWaiting, CanPull, OfPulled, PullsGroup, HasPulledGroup}
-use Rattle.bk_follow.proofs.Waiting.{can_take, took_all, took_none}
-use Rattle.bk_follow.proofs.Pulled.{cut_so_far, gathered_more, piece_came, taken_now}
+use Rattle.bk_follow.specs.private.Gathering.{CanPull, OfPulled, PullsGroup, HasPulledGroup}
 
 -- ---- one piece after another
 
@@ -126,62 +122,6 @@ can_pull_next a b before mid c0 c1 s =
     let k = s.known in
     let q = s.pulls k.0 k.1 k.2 k.3 in
     (k.0, k.1 ++ q.1.came, k.2 ++ frames_in mid, q.1.pulled)
-
--- ---- the frames that waited, taken beside it
-
-pub can_take_waiting : (start now : Device) (g : Inbox) → HasPulled start now g → (version : Option Version) → g.cutter.version ≡ version → CanTake version (frames_in g.frames.items) g.opened
-can_take_waiting start now g p None known = tt
-can_take_waiting start now g p (Some version) known = (p.taken, can_take p.bytes p.taken g p.come version known)
-
--- the same of the bytes and the frames that came
-pub can_take_all : (bytes : List ℕ) (taken : List Frame) (g : Inbox) → HasGathered bytes taken g → (version : Option Version) → g.cutter.version ≡ version → CanTake version (frames_in g.frames.items) g.opened
-can_take_all bytes taken g h None known = tt
-can_take_all bytes taken g h (Some version) known = (taken, can_take bytes taken g h version known)
-
--- they were taken, and no others wait
-pub takes_waiting : (g new : Inbox) (version : Option Version) → g.cutter.version ≡ version → new.cutter ≡ g.cutter → new.frames.items ≡ [] → TakesWaiting version (frames_in g.frames.items) g.opened new.opened
-    → (bytes : List ℕ) (taken : List Frame) → HasGathered bytes taken g → HasGathered bytes (taken ++ frames_in g.frames.items) new
-takes_waiting g new None known cut none same bytes taken h = took_none bytes taken g h new known cut same none
-takes_waiting g new (Some version) known cut none takes bytes taken h = took_all bytes taken g h new version known cut none takes
-
--- the bytes so far, where the frames that waited are taken out
-pub taken_out : (start now : Device) (g : Inbox) (none : List (Kind × Vec ℕ)) (p : HasPulled start now g) → none ≡ [] → IsPulled start now p.bytes ((p.taken ++ frames_in g.frames.items) ++ frames_in none) g.cutter
-taken_out start now g none p is =
-    subst (λ (t : List (Kind × Vec ℕ)). IsPulled start now p.bytes ((p.taken ++ frames_in g.frames.items) ++ frames_in t) g.cutter) (sym is)
-    (subst (λ (fs : List Frame). IsPulled start now p.bytes fs g.cutter) (sym (append-nil (p.taken ++ frames_in g.frames.items))) (cut_so_far start now g p))
-
-pub can_pull_behind : (start now : Device) (g : Inbox) (none : List (Kind × Vec ℕ)) (p : HasPulled start now g) → none ≡ [] → CanPull now none g.cutter
-can_pull_behind start now g none p is = (start, p.bytes, p.taken ++ frames_in g.frames.items, taken_out start now g none p is)
-
--- the pull was refused
-pub pull_refused : (start now later : Device) (g : Inbox) (none : List (Kind × Vec ℕ)) (fault : FeedFault) → HasPulled start now g → none ≡ [] → OfPulled now none g.cutter (λ start bytes taken. Refuses fault start later) → Refuses fault start later
-pull_refused start now later g none fault p is refused = refused start p.bytes (p.taken ++ frames_in g.frames.items) (taken_out start now g none p is)
-
-module _ (now later : Device) (g new : Inbox) (empty : Vec (Kind × Vec ℕ)) (none : empty.items ≡ []) (end : Bool) (group : PullsGroup now later empty.items new.frames.items g.cutter new.cutter end) where
-  -- the frames are taken, and no others wait
-  abbrev between : Inbox
-  between = record { cutter = g.cutter; opened = new.opened; frames = empty }
-
-  takes_them : (version : Option Version) → g.cutter.version ≡ version → TakesWaiting version (frames_in g.frames.items) g.opened new.opened → (bytes : List ℕ) (taken : List Frame) → HasGathered bytes taken g → HasGathered bytes (taken ++ frames_in g.frames.items) between
-  takes_them version known takes = takes_waiting g between version known refl none takes
-
-  module _ (version : Option Version) (known : g.cutter.version ≡ version) (takes : TakesWaiting version (frames_in g.frames.items) g.opened new.opened) where
-    pub group_came : (start : Device) → HasPulled start now g → HasPulled start later new
-    group_came start p =
-        let w = taken_now start now g between p (takes_them version known takes) in
-        let q = group.pulls start w.bytes w.taken (cut_so_far start now between w) in
-        piece_came start now later between new group.cuts.0 q.0 w q.1 group.cuts.1 refl
-
-    pub all_gathered : end ≡ true → (start : Device) → HasPulled start now g → Ends 0 start now → GaveAll start later (λ bytes. (taken : List Frame) × HasGathered bytes taken new)
-    all_gathered ended start p before_it =
-        let w = taken_now start now g between p (takes_them version known takes) in
-        let q = group.pulls start w.bytes w.taken (cut_so_far start now between w) in
-        let come = gathered_more start later w.bytes w.taken between new group.cuts.0 q.0 w.come q.1 group.cuts.1 refl in
-        let e = group.all ended start w.bytes w.taken (cut_so_far start now between w) before_it in
-        (e.0, e.2.gave, e.1, (w.taken, record { cuts = e.2.cuts; is_open = e.2.is_open; reads = e.2.reads; follows = come.follows }))
-
-  pub group_works : (start : Device) → HasPulled start now g → Works start later
-  group_works start p = (group.pulls start p.bytes (p.taken ++ frames_in g.frames.items) (taken_out start now g empty.items p none)).1.pulled.works
 
 -- ---- what a call gave whose result is known
 

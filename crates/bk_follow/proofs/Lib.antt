@@ -1,7 +1,6 @@
 pub mod Books
 pub mod Openings
-pub mod Waiting
-pub mod Pulled
+pub mod Gathered
 pub mod RunAnswers
 pub mod ClosedBooks
 pub mod Following

@@ -1,6 +1,6 @@
 -- The first two frames, and the frames that a piece makes whole.
-use Rattle.std.proofs.Common.{◌≡◌, true, false, ℕ, zero, suc, ◌+◌, ◌*◌, ◌^◌, ◌<◌, ◌≤◌, ◌⊎◌, inl, inr, List, [], ◌∷◌, ◌++◌, length, take, drop, Option, Some, None, refl, sym, ap, subst, ◌∙◌, arith, length-append}
-use Rattle.std.specs.Prelude.{◌==◌, IfSome, IsSome, IsTrue, is_some, slice_index_or, unwrap_or}
+use Rattle.std.proofs.Common.{◌≡◌, true, false, ℕ, zero, suc, ◌+◌, ◌*◌, ◌^◌, ◌<◌, ◌≤◌, List, [], ◌∷◌, ◌++◌, length, take, drop, Option, Some, None, refl, sym, ap, subst, ◌∙◌, arith, length-append}
+use Rattle.std.specs.Prelude.{◌==◌, IsSome, IsTrue, is_some, slice_index_or, unwrap_or}
 use Rattle.std.proofs.lemmas.List.{length-map, append-nil, length-drop}
 use Rattle.std.proofs.lemmas.Bool.{eqb-true}
 use Rattle.std.specs.Global.{Vec}
@@ -11,16 +11,12 @@ use Rattle.bk_base.specs.Feed.{Frame, FeedValue, frame_of, frame_text, AreGoodFr
 use Rattle.bk_base.specs.declared.genesis.Row.{Row}
 use Rattle.bk_base.specs.Committee.{is_committee}
 use Rattle.bk_base.specs.Genesis.{is_genesis, rows_of}
-use Rattle.bk_frames.specs.Cutting.{Cut, Cuts, in_magic, past_magic, in_frames, fresh, IsOpen, frames_in}
-use Rattle.bk_frames.proofs.CutJoining.{cuts_then, bytes_so_far, none_before_magic}
+use Rattle.bk_frames.specs.Cutting.{frames_in}
 use Rattle.bk_committee.specs.Payload.{CommitteeValue, committee_of}
-use Rattle.bk_order.specs.Intake.{nothing_ordered}
 use Rattle.bk_answer.specs.RunReport.{committee_in, later_frames}
-use Rattle.bk_follow.specs.Follower.{BookValue, IsBookOf, FollowsBy, Follows, HasCome, Followed, counts_of_executed, receipts_of_executed, counts_in, ordered_in, receipts_in, executed_in}
+use Rattle.bk_follow.specs.Follower.{BookValue, IsBookOf, FollowsBy, StaysSettled, counts_of_executed, receipts_in, receipts_of_executed}
 use Rattle.bk_follow.specs.private.Books.{HasFollowed}
 use Rattle.bk_follow.specs.private.Openings.{HeadIsCommittee, HeadIsGenesis, IsFirstOf, IsOpening, OpensFirst, OpensSecond, IsOpened}
-use Rattle.bk_follow.specs.private.Parts.{followed}
-use Rattle.bk_follow.specs.declared.opening.Opened.{Opened}
 
 -- nothing is whole where there is neither a committee nor a book
 pub before_first : (version : Version) (before : List Frame) → FollowsBy version before None None → before ≡ []
@@ -182,10 +178,10 @@ second_waits (Some k) (f ∷ more) new e h = absurd (let p = h.0 in cc)
 
 -- the book of the second frame
 pub opening_is : (k : CommitteeValue) (payload : List ℕ) (rows : List Row) (b : BookValue) (second : Frame) → second.payload ≡ payload → rows_of payload ≡ Some rows
-    → ((feed : FeedValue) → later_frames feed ≡ [] → k ≡ committee_in feed → rows ≡ genesis_of feed.frames → IsBookOf feed b) → receipts_of_executed b.executed ≡ [] → b.taken.ordered ≡ nothing_ordered → counts_of_executed b.executed ≡ [] → IsOpening k second b
-opening_is k payload rows b second same read book nothing unordered uncounted =
+    → ((feed : FeedValue) → later_frames feed ≡ [] → k ≡ committee_in feed → rows ≡ genesis_of feed.frames → IsBookOf feed b) → StaysSettled None (Some b) → IsOpening k second b
+opening_is k payload rows b second same read book nothing =
     let spelled : rows_of second.payload ≡ Some rows = ap rows_of same ∙ read in
-    (λ version first e. book (feed_of version (first ∷ second ∷ [])) refl e (sym (ap (λ (o : Option (List Row)). unwrap_or o []) spelled)), nothing, unordered, uncounted)
+    (λ version first e. book (feed_of version (first ∷ second ∷ [])) refl e (sym (ap (λ (o : Option (List Row)). unwrap_or o []) spelled)), nothing)
 
 -- the second frame came
 pub second_opens : (k : CommitteeValue) (after : Option CommitteeValue) (payload : List ℕ) (old new : List Frame) (b : BookValue) → IsFirstOf payload old new → ((second : Frame) → second.payload ≡ payload → IsOpening k second b)
@@ -233,23 +229,29 @@ opened_now version before (Some k) c1 c2 f0 f1 f2 book one two h =
     let two : OpensSecond (Some k) f0 c2 book f2 = subst (λ (y : Option CommitteeValue × List Frame). OpensSecond y.0 y.1 c2 book f2) (λ i. (one.0 i, one.1 i)) two in
     subst (λ (fs : List Frame). IsOpened version (fs ++ f0) c2 book f2) (sym e.all) (second_opened version e.first k f0 c2 book f2 e.committee two)
 
--- the book that is opened has executed nothing
-pub nothing_executed : (c1 c2 : Option CommitteeValue) (f1 f2 : List Frame) (book : Option BookValue) → OpensSecond c1 f1 c2 book f2 → receipts_in book ≡ []
-nothing_executed None c2 f1 f2 book h = ap receipts_in h.1
-nothing_executed (Some k) c2 [] f2 book h = ap receipts_in h.1
-nothing_executed (Some k) c2 (g ∷ more) f2 book h = ap receipts_in h.1 ∙ h.2.1
+-- in the book that is opened nothing is ordered or executed
+pub opened_stays : (c1 c2 : Option CommitteeValue) (f1 f2 : List Frame) (book : Option BookValue) → OpensSecond c1 f1 c2 book f2 → StaysSettled None book
+opened_stays None c2 f1 f2 book h = subst (StaysSettled None) (sym h.1) (refl, refl, refl)
+opened_stays (Some k) c2 [] f2 book h = subst (StaysSettled None) (sym h.1) (refl, refl, refl)
+opened_stays (Some k) c2 (g ∷ more) f2 book h = subst (StaysSettled None) (sym h.1) h.2.1
 
--- no batch either
-pub nothing_counted : (c1 c2 : Option CommitteeValue) (f1 f2 : List Frame) (book : Option BookValue) → OpensSecond c1 f1 c2 book f2 → counts_in book ≡ []
-nothing_counted None c2 f1 f2 book h = ap counts_in h.1
-nothing_counted (Some k) c2 [] f2 book h = ap counts_in h.1
-nothing_counted (Some k) c2 (g ∷ more) f2 book h = ap counts_in h.1 ∙ h.2.3
+-- ---- what was settled stays
 
--- and nothing is ordered in it
-pub nothing_settled : (c1 c2 : Option CommitteeValue) (f1 f2 : List Frame) (book : Option BookValue) → OpensSecond c1 f1 c2 book f2 → ordered_in book ≡ nothing_ordered
-nothing_settled None c2 f1 f2 book h = ap ordered_in h.1
-nothing_settled (Some k) c2 [] f2 book h = ap ordered_in h.1
-nothing_settled (Some k) c2 (g ∷ more) f2 book h = ap ordered_in h.1 ∙ h.2.2
+pub stays_itself : (book : Option BookValue) → StaysSettled book book
+stays_itself None = (refl, refl, refl)
+stays_itself (Some b) = (b, refl, refl, refl)
+
+pub stays_then : (o p q : Option BookValue) → StaysSettled o p → StaysSettled p q → StaysSettled o q
+stays_then None None q h then = then
+stays_then None (Some b) q h then = subst (StaysSettled None) (sym then.1) (then.2 ∙ h.0, ap receipts_of_executed then.3 ∙ h.1, ap counts_of_executed then.3 ∙ h.2)
+stays_then (Some o) None q h then = absurd (let e = h.1 in cc)
+stays_then (Some o) (Some b) q h then =
+    let same : b ≡ h.0 = let e = h.1 in cc in
+    (then.0, then.1, then.2 ∙ ap (λ (x : BookValue). x.taken.ordered) same ∙ h.2, then.3 ∙ ap (λ (x : BookValue). x.executed) same ∙ h.3)
+
+pub receipts_stay : (o p : Option BookValue) → StaysSettled o p → receipts_in p ≡ receipts_in o
+receipts_stay None p h = h.1
+receipts_stay (Some b) p h = ap receipts_in h.1 ∙ ap receipts_of_executed h.3
 
 -- ---- the frames after them
 
@@ -272,82 +274,3 @@ room_for_left version before more left c0 c1 book b h o =
     let w = with_book version o.front c1 b o.follows in
     let room = room_for_more version o.front (frames_in left) b w (subst (AreGoodFrom version 0 4) o.parts h.good) in
     omega (arith, room, frames_long left)
-
--- taking them executes nothing
-pub executed_still : (old : Option BookValue) (b new : BookValue) → new.executed ≡ b.executed → IfSome old (λ o. b.executed ≡ o.executed) → IfSome old (λ o. new.executed ≡ o.executed)
-executed_still None b new e h = tt
-executed_still (Some o) b new e h = e ∙ h
-
-pub executed_same : (old : Option BookValue) → IfSome old (λ o. executed_in old ≡ o.executed)
-executed_same None = tt
-executed_same (Some o) = refl
-
-pub executed_none : (old : Option BookValue) (P : BookValue → Type 0) → is_some old ≡ false → IfSome old P
-executed_none None P e = tt
-executed_none (Some o) P e = absurd cc
-
--- ---- a piece
-
--- what came before the magic was whole
-pub come_none : (bytes : List ℕ) (frames : List Frame) (v : Followed) → v.cut.version ≡ None → HasCome bytes frames v → (frames ≡ []) × (v.committee ≡ None) × (v.book ≡ None)
-come_none bytes frames v none come =
-    let nothing = none_before_magic bytes frames v.cut come.cuts none in
-    let follows = subst (λ o. Follows o frames v.committee v.book) none come.follows in
-    (nothing.0, follows.0, follows.1)
-
--- the frames that were followed before a piece, in the version that is known after it
-pub come_by : (bytes : List ℕ) (frames : List Frame) (v : Followed) (version : Version) → (v.cut.version ≡ None) ⊎ (v.cut.version ≡ Some version) → HasCome bytes frames v → FollowsBy version frames v.committee v.book
-come_by bytes frames v version (inl none) come =
-    let h = come_none bytes frames v none come in
-    subst (λ (fs : List Frame). FollowsBy version fs v.committee v.book) (sym h.0) (h.1, h.2)
-come_by bytes frames v version (inr known) come = subst (λ o. Follows o frames v.committee v.book) known come.follows
-
--- a cutter that knows a version knew it before, or knew none
-pub version_stays : (a b : Cut) (piece : List ℕ) (more : List Frame) (version : Version) → Cuts a piece more b → b.version ≡ Some version → (a.version ≡ None) ⊎ (a.version ≡ Some version)
-version_stays a b piece more version (in_magic old new i o none text) e = inl old
-version_stays a b piece more version (past_magic v old new text good i o) e = inl old
-version_stays a b piece more version (in_frames v old new text good i o) e = let same : v ≡ version = cc in inr (old ∙ ap Some same)
-
--- a cutter that knows no version knew none before
-pub no_version_before : (a b : Cut) (piece : List ℕ) (more : List Frame) → Cuts a piece more b → b.version ≡ None → a.version ≡ None
-no_version_before a b piece more (in_magic old new i o none text) e = old
-no_version_before a b piece more (past_magic v old new text good i o) e = absurd cc
-no_version_before a b piece more (in_frames v old new text good i o) e = absurd cc
-
--- the frames after a piece are good, and those before it are followed
-pub come_with : (bytes : List ℕ) (frames : List Frame) (cut new : Cut) (opened : Opened) (piece : List ℕ) (more : List Frame) (version : Version) → HasCome bytes frames (followed cut opened) → Cuts cut piece more new → new.version ≡ Some version
-    → HasFollowed version frames more opened.committee opened.book
-come_with bytes frames cut new opened piece more version come cuts known = record {
-  follows = come_by bytes frames (followed cut opened) version (version_stays cut new piece more version cuts known) come;
-  good = (bytes_so_far (bytes ++ piece) (frames ++ more) new version (cuts_then fresh cut new bytes piece frames more come.cuts cuts) known).0.good;
-}
-
--- a piece was taken where the version is known
-pub took_piece : (bytes : List ℕ) (frames : List Frame) (cut new : Cut) (opened after : Opened) (piece : List ℕ) (more : List Frame) (version : Version) → HasCome bytes frames (followed cut opened) → Cuts cut piece more new → (new.fault ≡ None) × IsOpen new → new.version ≡ Some version
-    → ((before : List Frame) → FollowsBy version before opened.committee opened.book → FollowsBy version (before ++ more) after.committee after.book) → (out : List Frame) × HasCome (bytes ++ piece) (frames ++ out) (followed new after)
-took_piece bytes frames cut new opened after piece more version come cuts ready known follows = (
-  more,
-  record {
-    cuts = cuts_then fresh cut new bytes piece frames more come.cuts cuts;
-    is_open = ready.1;
-    reads = ready.0;
-    follows = subst (λ o. Follows o (frames ++ more) after.committee after.book) (sym known) (follows frames (come_with bytes frames cut new opened piece more version come cuts known).follows);
-    works = refl;
-  },
-)
-
--- and where it is not
-pub took_magic : (bytes : List ℕ) (frames : List Frame) (cut new : Cut) (opened : Opened) (piece : List ℕ) (more : List Frame) → HasCome bytes frames (followed cut opened) → Cuts cut piece more new → (new.fault ≡ None) × IsOpen new → new.version ≡ None
-    → (out : List Frame) × HasCome (bytes ++ piece) (frames ++ out) (followed new opened)
-took_magic bytes frames cut new opened piece more come cuts ready none =
-    let old : cut.version ≡ None = no_version_before cut new piece more cuts none in
-    let h = come_none bytes frames (followed cut opened) old come in (
-      more,
-      record {
-        cuts = cuts_then fresh cut new bytes piece frames more come.cuts cuts;
-        is_open = ready.1;
-        reads = ready.0;
-        follows = subst (λ o. Follows o (frames ++ more) opened.committee opened.book) (sym none) (h.1, h.2);
-        works = refl;
-      },
-    )

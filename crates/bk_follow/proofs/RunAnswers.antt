@@ -1,6 +1,6 @@
 -- What a runner writes, and what it leaves where it fails, from what its Follower's end says.
 use Rattle.std.proofs.Common.{◌≡◌, ℕ, Bool, true, false, List, Option, Some, None, refl, sym, ap, subst, ◌∙◌}
-use Rattle.std.specs.Prelude.{IfSome}
+use Rattle.std.specs.Prelude.{IfSome, Result, Err}
 use Rattle.std.proofs.KnownBytes.{Keeps-refl}
 use Rattle.bk_frames.specs.declared.fault.FaultCode.TheVariants as code
 use Rattle.bk_frames.specs.declared.fault.FeedFault.{FeedFault}
@@ -13,12 +13,13 @@ use Rattle.bk_frames.proofs.CutJoining.{ends_cut_short}
 use Rattle.bk_frames.proofs.Devices.{gave_all, known_of}
 use Rattle.bk_results.specs.declared.fault.Fault.{Fault}
 use Rattle.bk_results.specs.declared.fault.Fault.TheVariants as fault
+use Rattle.bk_results.specs.declared.status.Status.{Status}
 use Rattle.bk_results.specs.Devices.{devices, AreFeedWith, IsUntouched}
 use Rattle.bk_answer.specs.Answers.{AnswerFailsBy, IsAnswered, IsMadeOf, IsOrderMadeOf, PartIsOut, TextIsOut, TextStops, WritesAnswer, WritesNot}
 use Rattle.bk_answer.specs.Closed.{ClosedValue, OrderValue}
-use Rattle.bk_answer.specs.RunReport.{IsStopIn, IsStopped, HasPlaceIn, HasPlace}
-use Rattle.bk_follow.specs.Follower.{BookValue, Followed, IsCurrent, executed_in}
-use Rattle.bk_follow.specs.Finishing.{OfFeed, Closes, CloseFails, ClosesOrder, CloseOrderFails}
+use Rattle.bk_answer.specs.RunReport.{HasNoStopIn, IsReportOf, IsStopIn, IsStopped, HasPlaceIn, HasPlace}
+use Rattle.bk_follow.specs.Follower.{BookValue, Followed, IsCurrent, broken, executed_in}
+use Rattle.bk_follow.specs.Finishing.{OfFeed, Closes, CloseFails, ClosesOrder, CloseOrderFails, Finishes, FinishFails}
 use Rattle.bk_follow.specs.Ordering.{IsOrdered}
 use Rattle.bk_follow.specs.Queries.{IsClosedBook, order_of}
 use Rattle.bk_follow.specs.Replaying.{AllHasCome, ReadFails}
@@ -201,3 +202,42 @@ module _ {E : Type 0} (text : FeedValue → E → List ℕ → Type 0) where
   call_read_fails (fault.Unfinished place) executes known now sink h = absurd h
   call_read_fails (fault.Write written) executes known now sink h = absurd h
   call_read_fails fault.Memory executes known now sink h = (h, untouched sink)
+
+-- ---- a report
+
+-- why the feed was not closed is why there is no report
+pub finish_unclosed : (f : Fault) (old new : Followed) (sink : Device) → CloseFails old new f → FinishFails old new sink sink f
+finish_unclosed (fault.Feed found) old new sink h = (h.0, h.1, untouched sink)
+finish_unclosed (fault.Collision id) old new sink h = (h.0, h.1, untouched sink)
+finish_unclosed (fault.Equivocation round author first second) old new sink h = (h.0, h.1, untouched sink)
+finish_unclosed (fault.Unfinished place) old new sink h = (h.0, h.1, untouched sink, h.2)
+finish_unclosed (fault.Write written) old new sink h = absurd h
+finish_unclosed fault.Memory old new sink h = (h.0, h.1, untouched sink)
+
+-- and the fault that was kept comes again
+pub finish_again : (stands : Option Fault) (found : Fault) (r : Result (Unit {0}) Fault) (s : Result Status Fault) (old new : Followed) (sink : Device) → r ≡ Err found → s ≡ Err found → IfSome stands (λ f. (r ≡ Err f) × (new ≡ old)) → IfSome stands (λ f. (s ≡ Err f) × (new ≡ old) × IsUntouched sink sink)
+finish_again None found r s old new sink is gives h = tt
+finish_again (Some f) found r s old new sink is gives h =
+    let same : found ≡ f = let e = sym is ∙ h.0 in cc in
+    (gives ∙ ap Err same, h.1, untouched sink)
+
+book_unwritten : (f : Fault) (old mid new : Followed) (b : BookValue) (before after : Device) → Closes old mid → mid.book ≡ Some b → WritesNot (IsCurrentOf b) IsReportOf f before after → new ≡ broken f → FinishFails old new before after f
+book_unwritten (fault.Feed found) old mid new b before after closed is h e = absurd h
+book_unwritten (fault.Collision id) old mid new b before after closed is h e = absurd h
+book_unwritten (fault.Equivocation round author first second) old mid new b before after closed is h e = absurd h
+book_unwritten (fault.Unfinished place) old mid new b before after closed is h e = absurd h
+book_unwritten (fault.Write written) old mid new b before after closed is h e =
+    (on_closed old mid b (λ feed. (answer : Status) × TextStops (IsReportOf feed answer) written before after) closed is (λ feed good current. h.0 feed (good, current)), e, h.1)
+book_unwritten fault.Memory old mid new b before after closed is h e = (on_closed old mid b HasNoStopIn closed is (λ feed good current. current.clear), e, h)
+
+-- and so is why that of its book was not written
+pub finish_unwritten : (f : Fault) (old mid new : Followed) (before after : Device) → Closes old mid → IfSome mid.book (λ b. WritesNot (IsCurrentOf b) IsReportOf f before after) → new ≡ broken f → FinishFails old new before after f
+finish_unwritten f old mid new before after closed h e =
+    let s = settled_now old mid closed in
+    book_unwritten f old mid new s.2 before after closed s.3 (of_book mid.book s.2 (λ b. WritesNot (IsCurrentOf b) IsReportOf f before after) s.3 h) e
+
+-- the report of the book is that of the feed
+pub finishes : (old new : Followed) (before after : Device) (answer : Status) → Closes old new → IfSome new.book (λ b. WritesAnswer (IsCurrentOf b) IsReportOf answer before after) → Finishes old new before after answer
+finishes old new before after answer closed h =
+    let r = follower_answers IsReportOf old new before after answer closed h in
+    record { settled = closed.settled; cut = closed.cut; report = r.0; works = r.1 }

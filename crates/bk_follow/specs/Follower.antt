@@ -122,6 +122,13 @@ counts_of_executed (Some e) = e.counts
 abbrev pub counts_in : Option BookValue → List (Option ℕ)
 counts_in book = counts_of_executed (executed_in book)
 
+-- what was settled stays as it is: where there was no book nothing is ordered or executed, and else there is one of the
+-- same order, of which the same was executed
+abbrev pub StaysSettled : Option BookValue → Option BookValue → Type 0
+StaysSettled None new = (ordered_in new ≡ nothing_ordered) × (receipts_in new ≡ []) × (counts_in new ≡ [])
+StaysSettled (Some b) new =
+    (c : BookValue) × (new ≡ Some c) × (c.taken.ordered ≡ b.taken.ordered) × (c.executed ≡ b.executed)
+
 -- why a piece was refused: its bytes show a fault of the feed, or memory ran out
 abbrev pub FeedFails : Followed → List ℕ → Fault → Type 0
 FeedFails old piece (fault.Feed found) = RefusesPiece old.cut piece found

@@ -1,13 +1,14 @@
-//! A feed whose book is open: some frames are judged, while those after them are pulled and those before them kept.
+//! A feed whose book is open: some frames are judged, while those after them are pulled and those before them taken.
 
-ghost use Rattle.std.specs.Prelude.{◌≡◌, ◌<◌, ◌≤◌, [], ℕ, List, length, None, Some, OnOk, IfOk, IfErr, IsTrue, false};
+ghost use Rattle.std.specs.Prelude.{◌≡◌, ◌<◌, ◌≤◌, ℕ, List, length, OnOk, IfOk, IfErr, IsTrue, false};
 ghost use Rattle.bk_base.specs.Feed.{Frame};
-ghost use Rattle.bk_frames.specs.Device.{Device, CanBeUsed, Ends, GaveAll};
+ghost use Rattle.bk_frames.specs.Device.{Device, CanBeUsed, Ends};
 ghost use Rattle.bk_frames.specs.Reading.{room_of};
 ghost use Rattle.bk_frames.specs.declared.pulling.TheConstants.{PIECE};
 ghost use Rattle.bk_follow.specs.Replaying.{ReadFails};
-ghost use Rattle.bk_follow.specs.private.Ahead.{CanTakeJudged, HasGatheredAhead, HasPulledAhead, TakesJudged};
-ghost use Rattle.bk_follow.specs.private.Gathering.{CanPull, HasGathered, HasPulledGroup, StaysSettled};
+ghost use Rattle.bk_follow.specs.Follower.{StaysSettled};
+ghost use Rattle.bk_follow.specs.private.Ahead.{CanTakeJudged, HasPulledAhead, IsOpenFor, TakesJudged, frames_ahead};
+ghost use Rattle.bk_follow.specs.private.Gathering.{CanPull, HasGathered, HasPulledAll, HasPulledGroup, TakesAll};
 
 use crate::fault::Fault;
 use crate::gathering::Inbox;
@@ -17,14 +18,13 @@ use bk_base::Kind;
 use bk_frames::{Cutter, FeedFault, Source};
 use bk_order::{Ahead, JudgedFrames};
 use std::alloc::{AllocError, Global};
-use std::mem::replace;
 use std::thread::{Threads, join_mut};
 
 // Takes frames that were judged, if there are any.
 fn take_judged(opened: &mut Opened, judged: Option<JudgedFrames>) -> Result<(), AllocError>
     requires come { CanTakeJudged judged opened.old }
     ensures takes { OnOk result (TakesJudged judged opened.old opened.new) }
-    ensures stays { OnOk result (StaysSettled opened.old opened.new) }
+    ensures stays { OnOk result (StaysSettled opened.old.book opened.new.book) }
 {
     let Some(judged) = judged else {
         return Ok(());
@@ -52,7 +52,7 @@ fn take_beside<R: Threads + Sync, S: Source>(
     requires few { length piece.old ≤ PIECE }
     requires pulled { CanPull (S.state source.old) frames.old.items cutter.old }
     ensures took { OnOk result.0 (TakesJudged judged.old opened.old opened.new
-        × StaysSettled opened.old opened.new) }
+        × StaysSettled opened.old.book opened.new.book) }
     ensures pulled { HasPulledGroup result.1 (S.state source.old) (S.state source.new)
         frames.old.items frames.new.items cutter.old cutter.new }
 {
@@ -61,7 +61,7 @@ fn take_beside<R: Threads + Sync, S: Source>(
         &mut || -> Result<(), AllocError>
             requires { CanTakeJudged judged.now opened.now }
             ensures { OnOk result (TakesJudged judged.entry.now opened.entry.now opened.exit.now
-                × StaysSettled opened.entry.now opened.exit.now) }
+                × StaysSettled opened.entry.now.book opened.exit.now.book) }
         {
             take_judged(opened, judged.take())?;
             Ok(())
@@ -77,7 +77,7 @@ fn take_beside<R: Threads + Sync, S: Source>(
 }
 
 impl Inbox {
-    /// Has the frames that wait judged, and pulls those after them. Beside that it takes the first that are judged, where
+    /// Pulls the next group of frames, which is judged from then on. Beside that it takes the first that is judged, where
     /// enough are. Returns whether the end of the source was reached.
     ///
     /// A fault of the bytes comes before memory that runs out beside it.
@@ -93,56 +93,57 @@ impl Inbox {
         requires some { 0 < length piece.old }
         requires few { length piece.old ≤ PIECE }
         requires come { (start : Device)
-            × HasPulledAhead start (S.state source.old) self.old ahead.old }
+            × HasPulledAhead start (S.state source.old) ahead.old self.old }
         ensures come { OnOk result ((start : Device)
-            → HasPulledAhead start (S.state source.old) self.old ahead.old
-            → HasPulledAhead start (S.state source.new) self.new ahead.new) }
+            → HasPulledAhead start (S.state source.old) ahead.old self.old
+            → HasPulledAhead start (S.state source.new) ahead.new self.new) }
         ensures goes_on { IfOk result (λ end. end ≡ false
             → Ends 0 (S.state source.old) (S.state source.new)) }
         ensures all { IfOk result (λ end. IsTrue end → (start : Device)
-            → HasPulledAhead start (S.state source.old) self.old ahead.old
-            → Ends 0 start (S.state source.old) → GaveAll start (S.state source.new)
-            (λ bytes. (taken : List Frame) × HasGatheredAhead bytes taken self.new ahead.new)) }
+            → HasPulledAhead start (S.state source.old) ahead.old self.old
+            → Ends 0 start (S.state source.old)
+            → HasPulledAll start (S.state source.new) (frames_ahead ahead.new) self.new) }
         ensures nearer { IfOk result (λ end. end ≡ false
             → room_of self.new.cutter < room_of self.old.cutter) }
-        ensures stays { OnOk result (StaysSettled self.old.opened self.new.opened) }
+        ensures stays { OnOk result (StaysSettled self.old.opened.book self.new.opened.book) }
         ensures fault { IfErr result (λ f. (start : Device)
-            → HasPulledAhead start (S.state source.old) self.old ahead.old
+            → HasPulledAhead start (S.state source.old) ahead.old self.old
             → ReadFails f start (S.state source.new)) }
     {
-        let waiting = replace(&mut self.frames, Vec::new(alloc));
-        ahead.push(rt, waiting)?;
         let mut judged = ahead.pop_full(rt)?;
-        let Inbox {
-            cutter,
+        let mut frames = Vec::new(alloc);
+        let Inbox { cutter, opened } = self;
+        let (took, pulled) = take_beside(
+            rt,
+            &mut judged,
             opened,
-            frames,
-        } = self;
-        let (took, pulled) = take_beside(rt, &mut judged, opened, source, piece, cutter, frames);
+            source,
+            piece,
+            cutter,
+            &mut frames,
+        );
         let end = pulled?;
         took?;
+        ahead.push(rt, frames)?;
         Ok(end)
     }
 
-    /// Takes all frames that are judged, and then those that wait.
+    /// Takes all frames that are judged.
     pub(crate) fn take_ahead(
         &mut self,
-        rt: &(impl Threads + Sync),
-        alloc: Global,
+        rt: &impl Threads,
         ahead: &mut Ahead,
     ) -> Result<(), AllocError>
         requires come { (bytes : List ℕ) × (taken : List Frame)
-            × HasGatheredAhead bytes taken self.old ahead.old }
-        ensures takes { OnOk result ((bytes : List ℕ) (taken : List Frame)
-            → HasGatheredAhead bytes taken self.old ahead.old
-            → (all : List Frame) × HasGathered bytes all self.new) }
-        ensures none_waits { OnOk result (self.new.frames.items ≡ []) }
-        ensures stays { OnOk result (StaysSettled self.old.opened self.new.opened) }
+            × HasGathered bytes taken (frames_ahead ahead.old) self.old
+            × IsOpenFor ahead.old.committee self.old.opened }
+        ensures takes { OnOk result (TakesAll (frames_ahead ahead.old) self.old self.new) }
+        ensures stays { OnOk result (StaysSettled self.old.opened.book self.new.opened.book) }
     {
         'groups: loop {
             match ahead.pop(rt)? {
                 Some(judged) => take_judged(&mut self.opened, Some(judged))?,
-                None => return self.take(rt, alloc),
+                None => return Ok(()),
             }
         }
     }

@@ -4,28 +4,24 @@ ghost use Rattle.std.specs.Prelude.{◌≡◌, ◌+◌, ◌^◌, ◌<◌, ◌≤
 ghost use Rattle.bk_base.specs.declared.version.Version.{Version};
 ghost use Rattle.bk_frames.specs.Cutting.{frames_in};
 ghost use Rattle.bk_base.specs.Feed.{Frame, FeedValue, IsFeed, feed_of, genesis_of};
-ghost use Rattle.bk_frames.specs.Device.{CanBeUsed};
 ghost use Rattle.bk_base.specs.Genesis.{AreAccounts};
-ghost use Rattle.bk_order.specs.Intake.{nothing_ordered};
 ghost use Rattle.bk_answer.specs.RunReport.{committee_in, later_frames, HasNoStopIn, IsStopIn};
-ghost use Rattle.bk_follow.specs.Follower.{IsBookOf, IsCurrent, counts_of_executed, receipts_of_executed};
+ghost use Rattle.bk_follow.specs.Follower.{IsBookOf, IsCurrent, StaysSettled, receipts_of_executed};
 ghost use Rattle.bk_rules.specs.Fold.{HasRoom};
 ghost use Rattle.bk_ledger.specs.Executing.{HasExecuted};
 ghost use Rattle.bk_ledger.specs.Naming.{named_by};
-ghost use Rattle.bk_follow.specs.private.Books.{IsGoodBook, BookSettleFails, WritesBook, WriteFails};
+ghost use Rattle.bk_follow.specs.private.Books.{IsGoodBook, BookSettleFails};
 ghost use Rattle.bk_answer.specs.Values.{closed_value, order_value};
 ghost use Rattle.bk_follow.specs.Queries.{IsClosedBook, order_of};
 ghost use Rattle.bk_follow.specs.private.Ledgers.{LeavesBy, left_after};
 
 use crate::fault::{Fault, stopped, unexecuted};
-use bk_answer::{Answer, Closed, ClosedOrder, Report};
+use bk_answer::{Closed, ClosedOrder};
 use bk_base::{Kind, Row, Workers};
 use bk_committee::Committee;
-use bk_frames::Sink;
 use bk_ledger::Ledger;
 use bk_order::{HashKey, Intake, JudgedFrames};
 use bk_pool::Gate;
-use bk_results::Status;
 use std::alloc::{AllocError, Global};
 use std::marker::Model;
 use std::sync::Wait;
@@ -104,9 +100,7 @@ impl Book {
         ensures book { IfOk result (λ b. (feed : FeedValue) → later_frames feed ≡ []
             → committee ≡ committee_in feed → opening.items ≡ genesis_of feed.frames
             → IsBookOf feed b) }
-        ensures none { IfOk result (λ b. receipts_of_executed b.executed ≡ []) }
-        ensures uncounted { IfOk result (λ b. counts_of_executed b.executed ≡ []) }
-        ensures unordered { IfOk result (λ b. b.taken.ordered ≡ nothing_ordered) }
+        ensures none { IfOk result (λ b. StaysSettled None (Some b)) }
     {
         let version = committee.version();
         let ledger = Ledger::new(alloc, version, &opening)?;
@@ -185,25 +179,6 @@ impl Book {
             }),
             None => None,
         }
-    }
-
-    /// Writes the report of the feed whose frames these are, all of them settled.
-    pub(crate) fn write<R: Threads + Sync, K: Sink>(
-        &self,
-        rt: &R,
-        sink: &mut K,
-    ) -> Result<Status, Fault>
-        requires sound { CanBeUsed (K.state sink.old) }
-        requires current { (feed : FeedValue) × IsFeed feed × IsCurrent feed self.now }
-        ensures report { IfOk result (WritesBook self.now
-            (K.state sink.old) (K.state sink.new)) }
-        ensures fault { IfErr result (WriteFails self.now
-            (K.state sink.old) (K.state sink.new)) }
-    {
-        let Some(closed) = self.closed() else {
-            unreachable!()
-        };
-        Report.write(rt, self.alloc, &closed, sink)
     }
 
     /// Settles the order of the frames so far, and executes the batches that it adds. Returns how many places that is.

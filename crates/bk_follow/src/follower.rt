@@ -1,23 +1,18 @@
 //! A feed that is followed as it comes.
 
-ghost use Rattle.std.specs.Prelude.{◌≡◌, ℕ, List, [], None, Some, Err, OnOk, IfOk, IfErr, IfSome};
-ghost use Rattle.bk_frames.specs.Device.{CanBeUsed};
+ghost use Rattle.std.specs.Prelude.{◌≡◌, ℕ, List, None, Some, Err, OnOk, IfOk, IfErr, IfSome};
 ghost use Rattle.bk_base.specs.Feed.{Frame};
-ghost use Rattle.bk_follow.specs.Follower.{unfed, broken, HasCome, Takes, FeedFails, Settles, SettleFails, counts_in, ordered_in, receipts_in, executed_in};
-ghost use Rattle.bk_follow.specs.Finishing.{Closes, CloseFails, Finishes, FinishFails};
-ghost use Rattle.bk_results.specs.Devices.{IsUntouched};
-ghost use Rattle.bk_follow.specs.private.Parts.{followed, followed_with, after_fault, ClosesNot, EndFails};
+ghost use Rattle.bk_follow.specs.Follower.{unfed, broken, HasCome, Takes, FeedFails, Settles, SettleFails, StaysSettled, receipts_in};
+ghost use Rattle.bk_follow.specs.Finishing.{Closes, CloseFails};
+ghost use Rattle.bk_follow.specs.Queries.{EndsNot};
+ghost use Rattle.bk_follow.specs.private.Parts.{EndsHere, followed, followed_with, after_fault};
 ghost use Rattle.bk_follow.specs.Stopping.{kept_fault, stops};
 
-use crate::book::Book;
 use crate::fault::Fault;
 use crate::gathering::Inbox;
-use crate::opening::{Opened, advance};
 use crate::settings::Settings;
 use bk_base::Workers;
-use bk_frames::{Cutter, Sink};
 use bk_pool::Gate;
-use bk_results::Status;
 use std::alloc::Global;
 use std::marker::Model;
 use std::mem::{forget, replace};
@@ -37,7 +32,7 @@ pub struct Follower {
 }
 
 impl Model for Follower {
-    ghost use Rattle.std.specs.Prelude.{◌≡◌, ℕ, List, [], None, IfSome};
+    ghost use Rattle.std.specs.Prelude.{◌≡◌, ℕ, List, None, IfSome};
     ghost use Rattle.bk_base.specs.Feed.{Frame};
     ghost use Rattle.bk_follow.specs.Follower.{Followed, HasCome, unfed};
     ghost use Rattle.bk_follow.specs.private.Parts.{followed};
@@ -54,7 +49,6 @@ impl Model for Follower {
     ghost invariant = { λ f. (f.fault ≡ None
         → (bytes : List ℕ) × (frames : List Frame)
         × HasCome bytes frames (followed f.gathered.cutter f.gathered.opened))
-        × (f.fault ≡ None → f.gathered.frames.items ≡ [])
         × IfSome f.fault (λ _. followed f.gathered.cutter f.gathered.opened ≡ unfed) };
 }
 
@@ -76,7 +70,6 @@ pub(crate) fn latch(
     fault: Fault,
 ) -> Fault
     ensures emptied { followed gathered.new.cutter gathered.new.opened ≡ unfed }
-    ensures none_waits { gathered.new.frames.items ≡ [] }
     ensures standing { standing.new ≡ Some fault }
     ensures same { result ≡ fault }
 {
@@ -95,12 +88,10 @@ pub(crate) fn latch_unless_stop(
     fault: Fault,
 ) -> Fault
     requires none { standing.old ≡ None }
-    requires none_waits { gathered.old.frames.items ≡ [] }
     ensures left { followed_with gathered.new.cutter gathered.new.opened standing.new
         ≡ after_fault fault (followed gathered.old.cutter gathered.old.opened) }
     ensures emptied { IfSome standing.new
         (λ _. followed gathered.new.cutter gathered.new.opened ≡ unfed) }
-    ensures none_waits { gathered.new.frames.items ≡ [] }
     ensures standing { standing.new ≡ kept_fault fault }
     ensures same { result ≡ fault }
 {
@@ -108,54 +99,6 @@ pub(crate) fn latch_unless_stop(
         return fault;
     }
     latch(alloc, gathered, standing, fault)
-}
-
-// Settles, where the feed may end here.
-fn settle_at_end<R: Threads + Wait + Sync, G: Gate + Sync>(
-    rt: &R,
-    cutter: &Cutter,
-    opened: &mut Opened,
-    workers: Workers,
-    gate: &G,
-) -> Result<(), Fault>
-    requires come { (bytes : List ℕ) × (frames : List Frame)
-        × HasCome bytes frames (followed cutter.now opened.old) }
-    ensures closed { OnOk result (Closes (followed cutter.now opened.old)
-        (followed cutter.now opened.new)) }
-    ensures fault { IfErr result (ClosesNot (followed cutter.now opened.old)
-        (followed cutter.now opened.new)) }
-{
-    cutter.end()?;
-    let Some(book) = &mut opened.book else {
-        unreachable!()
-    };
-    book.settle(rt, workers, gate)?;
-    Ok(())
-}
-
-// Settles, and writes the report, where the feed may end here.
-fn end<R: Threads + Wait + Sync, G: Gate + Sync, K: Sink>(
-    rt: &R,
-    cutter: &Cutter,
-    opened: &mut Opened,
-    workers: Workers,
-    gate: &G,
-    sink: &mut K,
-) -> Result<Status, Fault>
-    requires sound { CanBeUsed (K.state sink.old) }
-    requires come { (bytes : List ℕ) × (frames : List Frame)
-        × HasCome bytes frames (followed cutter.now opened.old) }
-    ensures report { IfOk result (Finishes (followed cutter.now opened.old)
-        (followed cutter.now opened.new) (K.state sink.old) (K.state sink.new)) }
-    ensures fault { IfErr result (EndFails (followed cutter.now opened.old)
-        (followed cutter.now opened.new) (K.state sink.old) (K.state sink.new)) }
-{
-    settle_at_end(rt, cutter, opened, workers, gate)?;
-    let Some(book) = &opened.book else {
-        unreachable!()
-    };
-    let status = book.write(rt, sink)?;
-    Ok(status)
 }
 
 impl Follower {
@@ -210,11 +153,8 @@ impl Follower {
     /// neither are collisions and twins. The order stays as it was settled last.
     pub fn feed<R: Threads + Sync>(&mut self, rt: &R, piece: &[u8]) -> Result<(), Fault>
         ensures takes { OnOk result (Takes self.old piece.now self.new) }
-        ensures order { OnOk result (ordered_in self.new.book ≡ ordered_in self.old.book) }
+        ensures stays { OnOk result (StaysSettled self.old.book self.new.book) }
         ensures rests { OnOk result (receipts_in self.new.book ≡ receipts_in self.old.book) }
-        ensures counts { OnOk result (counts_in self.new.book ≡ counts_in self.old.book) }
-        ensures executed { OnOk result (IfSome self.old.book
-            (λ b. executed_in self.new.book ≡ b.executed)) }
         ensures works { OnOk result ((self.old.fault ≡ None) × (self.new.fault ≡ None)) }
         ensures again { IfSome self.old.fault (λ f. (result ≡ Err f) × (self.new ≡ self.old)) }
         ensures broken { IfErr result (λ f. self.new ≡ broken f) }
@@ -223,8 +163,7 @@ impl Follower {
         if let Some(fault) = self.fault {
             return Err(fault);
         }
-        let Inbox { cutter, opened, .. } = &mut self.gathered;
-        match advance(rt, self.alloc, cutter, opened, piece) {
+        match self.gathered.feed(rt, self.alloc, piece) {
             Ok(()) => Ok(()),
             Err(fault) => Err(latch(self.alloc, &mut self.gathered, &mut self.fault, fault)),
         }
@@ -263,6 +202,28 @@ impl Follower {
         }
     }
 
+    /// Whether the feed may end here. Else it has failed.
+    pub(crate) fn end_here(&mut self) -> Result<(), Fault>
+        ensures ends { OnOk result (EndsHere self.old) }
+        ensures stays { OnOk result (self.new ≡ self.old) }
+        ensures again { IfSome self.old.fault (λ f. (result ≡ Err f) × (self.new ≡ self.old)) }
+        ensures fault { IfErr result (λ f. self.old.fault ≡ None
+            → EndsNot self.old f × (self.new ≡ broken f)) }
+    {
+        if let Some(fault) = self.fault {
+            return Err(fault);
+        }
+        match self.gathered.cutter.end() {
+            Ok(()) => Ok(()),
+            Err(found) => Err(latch(
+                self.alloc,
+                &mut self.gathered,
+                &mut self.fault,
+                Fault::Feed(found),
+            )),
+        }
+    }
+
     /// Settles the feed that ends here. After `Ok`, `Collision` or `Equivocation` it may go on.
     pub fn close<R: Threads + Wait + Sync, G: Gate + Sync>(
         &mut self,
@@ -274,51 +235,8 @@ impl Follower {
         ensures again { IfSome self.old.fault (λ f. (result ≡ Err f) × (self.new ≡ self.old)) }
         ensures fault { IfErr result (λ f. self.old.fault ≡ None → CloseFails self.old self.new f) }
     {
-        if let Some(fault) = self.fault {
-            return Err(fault);
-        }
-        let Inbox { cutter, opened, .. } = &mut self.gathered;
-        match settle_at_end(rt, cutter, opened, self.workers, gate) {
-            Ok(()) => Ok(()),
-            Err(fault) => Err(latch_unless_stop(
-                self.alloc,
-                &mut self.gathered,
-                &mut self.fault,
-                fault,
-            )),
-        }
-    }
-
-    /// Settles, and writes the report of the feed that ends here.
-    ///
-    /// With every fault but `Write` nothing is written. After `Ok`, `Collision` or `Equivocation` the feed may go on.
-    pub fn finish<R: Threads + Wait + Sync, G: Gate + Sync, K: Sink>(
-        &mut self,
-        rt: &R,
-        gate: &G,
-        sink: &mut K,
-    ) -> Result<Status, Fault>
-        requires sound { CanBeUsed (K.state sink.old) }
-        ensures report { IfOk result (Finishes self.old self.new
-            (K.state sink.old) (K.state sink.new)) }
-        ensures works { OnOk result ((self.old.fault ≡ None) × (self.new.fault ≡ None)) }
-        ensures again { IfSome self.old.fault (λ f. (result ≡ Err f) × (self.new ≡ self.old)
-            × IsUntouched (K.state sink.old) (K.state sink.new)) }
-        ensures fault { IfErr result (λ f. self.old.fault ≡ None
-            → FinishFails self.old self.new (K.state sink.old) (K.state sink.new) f) }
-    {
-        if let Some(fault) = self.fault {
-            return Err(fault);
-        }
-        let Inbox { cutter, opened, .. } = &mut self.gathered;
-        match end(rt, cutter, opened, self.workers, gate, sink) {
-            Ok(status) => Ok(status),
-            Err(fault) => Err(latch_unless_stop(
-                self.alloc,
-                &mut self.gathered,
-                &mut self.fault,
-                fault,
-            )),
-        }
+        self.end_here()?;
+        self.settle(rt, gate)?;
+        Ok(())
     }
 }

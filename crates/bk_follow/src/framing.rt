@@ -1,23 +1,23 @@
 //! The frames of a feed that is read to its end, whether something stops it or not, and what is asked of them.
 
-ghost use Rattle.std.specs.Prelude.{◌≡◌, ◌<◌, ◌≤◌, ℕ, List, length, false, Err, None, Some, IfOk, IfErr, IfSome, OnOk, option_map};
+ghost use Rattle.std.specs.Prelude.{◌≡◌, ℕ, List, false, Err, None, Some, IfOk, IfErr, IfSome, OnOk, option_map};
 ghost use Rattle.bk_base.specs.Feed.{Frame};
 ghost use Rattle.bk_answer.specs.Answers.{AnswerFailsBy, IsAnswered};
 ghost use Rattle.bk_answer.specs.Closed.{IsTakenFor};
 ghost use Rattle.bk_frames.specs.Device.{CanBeUsed};
-ghost use Rattle.bk_frames.specs.declared.pulling.TheConstants.{PIECE};
 ghost use Rattle.bk_results.specs.Devices.{devices};
 ghost use Rattle.bk_follow.specs.Finishing.{OfFeed};
-ghost use Rattle.bk_follow.specs.Follower.{HasCome, unfed};
+ghost use Rattle.bk_follow.specs.Follower.{HasCome};
 ghost use Rattle.bk_follow.specs.Queries.{EndsNot};
 ghost use Rattle.bk_follow.specs.Stopping.{stops};
 ghost use Rattle.bk_follow.specs.private.Answering.{FollowerAnswers, FollowerAnswersNot};
 
+use crate::answering::read;
 use crate::fault::Fault;
 use crate::follower::Follower;
 use crate::settings::alone;
 use bk_answer::FrameAnswer;
-use bk_frames::{PIECE, Sink, Source, push_all};
+use bk_frames::{Sink, Source, push_all};
 use bk_order::{HashKey, Intake};
 use std::alloc::Global;
 use std::thread::Threads;
@@ -66,34 +66,6 @@ fn take_and_answer<K: Sink, A: FrameAnswer>(
     Ok(end)
 }
 
-// Follows all that a source has, and writes its answer. The piece is room for its bytes.
-fn follow_frames_and_answer<R: Threads + Sync, S: Source, K: Sink, A: FrameAnswer>(
-    rt: &R,
-    source: &mut S,
-    sink: &mut K,
-    piece: &mut [u8],
-    follower: &mut Follower,
-    asked: &A,
-) -> Result<A::End, Fault>
-    requires ask { A.can_ask asked.now }
-    requires some { 0 < length piece.old }
-    requires few { length piece.old ≤ PIECE }
-    requires first { follower.old ≡ unfed }
-    requires source { CanBeUsed (S.state source.old) }
-    requires sink { CanBeUsed (K.state sink.old) }
-    ensures answer { IfOk result (λ end. IsAnswered (A.text asked.now) end
-        (devices (S.state source.old) (K.state sink.old))
-        (devices (S.state source.new) (K.state sink.new))) }
-    ensures fault { IfErr result (λ f. AnswerFailsBy (A.text asked.now) false f
-        (devices (S.state source.old) (K.state sink.old))
-        (devices (S.state source.new) (K.state sink.new))) }
-    ensures unstopped { IfErr result (λ f. stops f ≡ false) }
-{
-    follower.follow(rt, source, piece)?;
-    let end = take_and_answer(follower, asked, sink)?;
-    Ok(end)
-}
-
 /// Reads a feed, whether something stops it or not, and writes what is asked of its frames. Nothing is ordered or
 /// executed.
 ///
@@ -118,16 +90,8 @@ pub fn answer_by_frames<R: Threads + Sync, S: Source, K: Sink, A: FrameAnswer>(
         (devices (S.state source.new) (K.state sink.new))) }
     ensures unstopped { IfErr result (λ f. stops f ≡ false) }
 {
-    let mut piece = vec![in alloc; 0u8; PIECE]?;
-    let mut follower = Follower::new(alloc, alone(key));
-    let end = follow_frames_and_answer(
-        rt,
-        source,
-        sink,
-        piece.as_mut_slice(),
-        &mut follower,
-        asked,
-    );
+    let follower = read(rt, alloc, source, alone(key))?;
+    let end = take_and_answer(&follower, asked, sink);
     follower.discard();
     end
 }

@@ -1,22 +1,20 @@
 //! The first two frames of a feed, and what follows them.
 
-ghost use Rattle.std.specs.Prelude.{◌≡◌, ◌++◌, [], ℕ, List, None, Some, Option, OnOk, IfOk, IfErr, IfSome, IsSome, IsTrue, MatchOption};
+ghost use Rattle.std.specs.Prelude.{◌≡◌, ◌++◌, [], ℕ, List, None, Some, OnOk, IfOk, IsSome, IsTrue, MatchOption};
 ghost use Rattle.bk_base.specs.declared.version.Version.{Version};
 ghost use Rattle.bk_frames.specs.Cutting.{frames_in};
 ghost use Rattle.bk_base.specs.Feed.{Frame};
 ghost use Rattle.bk_base.specs.Committee.{is_committee};
 ghost use Rattle.bk_base.specs.Genesis.{AreAccounts, is_genesis, rows_of};
 ghost use Rattle.bk_committee.specs.Payload.{blamed, committee_of};
-ghost use Rattle.bk_follow.specs.Follower.{HasCome, Takes, FollowsBy, FeedFails, counts_in, ordered_in, receipts_in, executed_in};
+ghost use Rattle.bk_follow.specs.Follower.{FollowsBy, StaysSettled};
 ghost use Rattle.bk_follow.specs.private.Books.{HasFollowed};
 ghost use Rattle.bk_follow.specs.private.Openings.{HeadIsCommittee, HeadIsGenesis, IsFirstOf, IsOpening, OpensFirst, OpensSecond, IsOpened};
-ghost use Rattle.bk_follow.specs.private.Parts.{followed};
+ghost use Rattle.bk_follow.specs.private.Gathering.{CanTake, TakesNext};
 
 use crate::book::Book;
-use crate::fault::Fault;
 use bk_base::{Kind, Row, Version, read_genesis};
 use bk_committee::{Bad, Committee};
-use bk_frames::Cutter;
 use bk_order::HashKey;
 use std::alloc::{AllocError, Global};
 use std::mem::{forget, replace};
@@ -156,11 +154,7 @@ fn open(
         → FollowsBy version before opened.old.committee opened.old.book
         → IsOpened version (before ++ frames_in frames.old.items)
         opened.new.committee opened.new.book (frames_in frames.new.items)) }
-    ensures order { OnOk result (ordered_in opened.new.book ≡ ordered_in opened.old.book) }
-    ensures receipts { OnOk result (receipts_in opened.new.book ≡ receipts_in opened.old.book) }
-    ensures counts { OnOk result (counts_in opened.new.book ≡ counts_in opened.old.book) }
-    ensures executed { OnOk result (IfSome opened.old.book
-        (λ b. executed_in opened.new.book ≡ b.executed)) }
+    ensures stays { OnOk result (StaysSettled opened.old.book opened.new.book) }
 {
     if opened.book.is_some() {
         return Ok(());
@@ -170,8 +164,8 @@ fn open(
     Ok(())
 }
 
-/// Takes the frames that a piece made whole.
-pub(crate) fn take_frames(
+// Takes the next frames of a feed in this version.
+fn take_frames(
     rt: &(impl Threads + Sync),
     alloc: Global,
     version: Version,
@@ -184,11 +178,7 @@ pub(crate) fn take_frames(
         → FollowsBy version before opened.old.committee opened.old.book
         → FollowsBy version (before ++ frames_in frames.items)
         opened.new.committee opened.new.book) }
-    ensures order { OnOk result (ordered_in opened.new.book ≡ ordered_in opened.old.book) }
-    ensures receipts { OnOk result (receipts_in opened.new.book ≡ receipts_in opened.old.book) }
-    ensures counts { OnOk result (counts_in opened.new.book ≡ counts_in opened.old.book) }
-    ensures executed { OnOk result (IfSome opened.old.book
-        (λ b. executed_in opened.new.book ≡ b.executed)) }
+    ensures stays { OnOk result (StaysSettled opened.old.book opened.new.book) }
 {
     let mut frames = frames;
     open(alloc, version, opened, &mut frames)?;
@@ -199,29 +189,21 @@ pub(crate) fn take_frames(
     Ok(())
 }
 
-/// Takes the next piece of a feed.
-pub(crate) fn advance(
+/// Takes the next frames. There are none before the version is known.
+pub(crate) fn take(
     rt: &(impl Threads + Sync),
     alloc: Global,
-    cutter: &mut Cutter,
+    version: Option<Version>,
     opened: &mut Opened,
-    piece: &[u8],
-) -> Result<(), Fault>
-    requires come { (bytes : List ℕ) × (frames : List Frame)
-        × HasCome bytes frames (followed cutter.old opened.old) }
-    ensures takes { OnOk result (Takes (followed cutter.old opened.old) piece.now
-        (followed cutter.new opened.new)) }
-    ensures order { OnOk result (ordered_in opened.new.book ≡ ordered_in opened.old.book) }
-    ensures receipts { OnOk result (receipts_in opened.new.book ≡ receipts_in opened.old.book) }
-    ensures counts { OnOk result (counts_in opened.new.book ≡ counts_in opened.old.book) }
-    ensures executed { OnOk result (IfSome opened.old.book
-        (λ b. executed_in opened.new.book ≡ b.executed)) }
-    ensures fault { IfErr result (λ f. FeedFails (followed cutter.old opened.old) piece.now f) }
+    frames: Vec<(Kind, Vec<u8>)>,
+) -> Result<(), AllocError>
+    requires come { CanTake version (frames_in frames.items) opened.old }
+    ensures takes { OnOk result (TakesNext version (frames_in frames.items)
+        opened.old opened.new) }
+    ensures stays { OnOk result (StaysSettled opened.old.book opened.new.book) }
 {
-    let frames = cutter.feed(piece)?;
-    match cutter.version() {
-        Some(version) => take_frames(rt, alloc, version, opened, frames)?,
-        None => {}
+    if let Some(version) = version {
+        take_frames(rt, alloc, version, opened, frames)?;
     }
     Ok(())
 }

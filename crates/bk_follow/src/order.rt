@@ -1,21 +1,16 @@
 //! The order of what a Follower has so far.
 
-ghost use Rattle.std.specs.Prelude.{◌≡◌, ℕ, List, None, Err, OnOk, IfOk, IfErr, IfSome};
-ghost use Rattle.bk_base.specs.Feed.{Frame, FeedValue};
+ghost use Rattle.std.specs.Prelude.{◌≡◌, None, Err, OnOk, IfOk, IfErr, IfSome};
+ghost use Rattle.bk_base.specs.Feed.{FeedValue};
 ghost use Rattle.bk_follow.specs.Finishing.{ClosesOrder, CloseOrderFails};
-ghost use Rattle.bk_follow.specs.Follower.{HasCome};
 ghost use Rattle.bk_follow.specs.Ordering.{IsOrdered, FindsOrder, OrderFails, anchors_in, certs_in};
 ghost use Rattle.bk_follow.specs.private.Books.{IsGoodBook};
 ghost use Rattle.bk_follow.specs.private.Ordered.{BookOrderFails};
-ghost use Rattle.bk_follow.specs.private.Parts.{followed, OrdersNot};
 
 use crate::book::Book;
 use crate::fault::{Fault, stopped};
 use crate::follower::{Follower, latch_unless_stop};
-use crate::gathering::Inbox;
-use crate::opening::Opened;
 use bk_cert::CertRef;
-use bk_frames::Cutter;
 
 /// The order of the whole frames of a feed so far.
 #[derive(Clone, Copy, Debug, PartialEq, Eq)]
@@ -40,23 +35,6 @@ impl Book {
         self.intake.settle()?;
         Ok(())
     }
-}
-
-// Settles the order, where the feed may end here.
-fn order_at_end(cutter: &Cutter, opened: &mut Opened) -> Result<(), Fault>
-    requires come { (bytes : List ℕ) × (frames : List Frame)
-        × HasCome bytes frames (followed cutter.now opened.old) }
-    ensures closed { OnOk result (ClosesOrder (followed cutter.now opened.old)
-        (followed cutter.now opened.new)) }
-    ensures fault { IfErr result (OrdersNot (followed cutter.now opened.old)
-        (followed cutter.now opened.new)) }
-{
-    cutter.end()?;
-    let Some(book) = &mut opened.book else {
-        unreachable!()
-    };
-    book.settle_order()?;
-    Ok(())
 }
 
 impl Follower {
@@ -97,19 +75,9 @@ impl Follower {
         ensures fault { IfErr result (λ f. self.old.fault ≡ None
             → CloseOrderFails self.old self.new f) }
     {
-        if let Some(fault) = self.fault {
-            return Err(fault);
-        }
-        let Inbox { cutter, opened, .. } = &mut self.gathered;
-        match order_at_end(cutter, opened) {
-            Ok(()) => Ok(()),
-            Err(fault) => Err(latch_unless_stop(
-                self.alloc,
-                &mut self.gathered,
-                &mut self.fault,
-                fault,
-            )),
-        }
+        self.end_here()?;
+        self.settle_order()?;
+        Ok(())
     }
 
     /// The committed anchors and the certificates in order as they were settled last, by `settle`, `settle_order` or

@@ -1,14 +1,13 @@
-ghost use Rattle.std.specs.Prelude.{◌≡◌, ℕ, ◌<◌, ◌≤◌, [], List, length, true, false, None, Some, OnOk, IfOk, IfErr, IsTrue};
+ghost use Rattle.std.specs.Prelude.{◌≡◌, ◌<◌, ◌≤◌, [], length, true, false, None, OnOk, IfOk, IfErr, IsTrue};
 ghost use Rattle.bk_answer.specs.Answers.{AnswerFailsBy, IsAnswered};
 ghost use Rattle.bk_answer.specs.RunReport.{IsReportOf};
 ghost use Rattle.bk_frames.specs.Device.{CanBeUsed, Device, Ends, Works, GaveAll};
-ghost use Rattle.bk_base.specs.Feed.{Frame};
-ghost use Rattle.bk_follow.specs.Follower.{broken, counts_in, ordered_in, receipts_in, unfed};
+ghost use Rattle.bk_follow.specs.Follower.{StaysSettled, broken, unfed};
 ghost use Rattle.bk_results.specs.Devices.{devices};
 ghost use Rattle.bk_follow.specs.Replaying.{ReadFails, AllHasCome};
 ghost use Rattle.bk_follow.specs.private.Ahead.{HasBook, HasPulledAhead, IsOpenFor};
-ghost use Rattle.bk_follow.specs.private.Gathering.{HasGathered, HasPulled, IsAllOf, StaysSettled};
-ghost use Rattle.bk_order.specs.Intake.{nothing_ordered};
+ghost use Rattle.bk_follow.specs.private.Gathering.{HasPulled, HasPulledAll};
+ghost use Rattle.bk_follow.specs.private.Parts.{followed};
 ghost use Rattle.bk_frames.specs.declared.pulling.TheConstants.{PIECE};
 
 use crate::answering::answer_by_ledger;
@@ -26,7 +25,7 @@ use std::alloc::{AllocError, Global};
 use std::sync::Wait;
 use std::thread::Threads;
 
-// Gathers a feed until its book is open. Returns whether its end was reached before, and then takes it all.
+// Takes a feed until its book is open. Returns whether its end was reached before.
 fn pull_opening<R: Threads + Sync, S: Source>(
     rt: &R,
     alloc: Global,
@@ -37,19 +36,19 @@ fn pull_opening<R: Threads + Sync, S: Source>(
     requires sound { CanBeUsed (S.state source.old) }
     requires some { 0 < length piece.old }
     requires few { length piece.old ≤ PIECE }
-    requires first { HasGathered [] [] gathered.old }
-    ensures come { OnOk result (HasPulled (S.state source.old) (S.state source.new) gathered.new) }
+    requires first { followed gathered.old.cutter gathered.old.opened ≡ unfed }
+    ensures come { OnOk result (HasPulled (S.state source.old) (S.state source.new)
+        [] gathered.new) }
     ensures open { IfOk result (λ end. end ≡ false → HasBook gathered.new.opened
         × Ends 0 (S.state source.old) (S.state source.new)) }
     ensures all { IfOk result (λ end. IsTrue end
-        → IsAllOf (S.state source.old) (S.state source.new) gathered.new) }
-    ensures stays { OnOk result (StaysSettled gathered.old.opened gathered.new.opened) }
+        → HasPulledAll (S.state source.old) (S.state source.new) [] gathered.new) }
+    ensures stays { OnOk result (StaysSettled gathered.old.opened.book gathered.new.opened.book) }
     ensures fault { IfErr result (λ f. ReadFails f (S.state source.old) (S.state source.new)) }
 {
     // The label names the loop for its proof.
     'groups: loop {
         if gathered.pull(rt, alloc, source, piece)? {
-            gathered.take(rt, alloc)?;
             return Ok(true);
         }
         if gathered.opened.book.is_some() {
@@ -71,7 +70,7 @@ fn ahead_of(rt: &impl Threads, alloc: Global, opened: &Opened) -> Result<Ahead, 
     Ok(ahead)
 }
 
-// Gathers what is left of a feed whose book is open, and takes it all.
+// Takes what is left of a feed whose book is open.
 fn pull_rest<R: Threads + Sync, S: Source>(
     rt: &R,
     alloc: Global,
@@ -84,25 +83,25 @@ fn pull_rest<R: Threads + Sync, S: Source>(
     requires some { 0 < length piece.old }
     requires few { length piece.old ≤ PIECE }
     requires come { (start : Device)
-        × HasPulledAhead start (S.state source.old) gathered.old ahead.old }
+        × HasPulledAhead start (S.state source.old) ahead.old gathered.old }
     ensures all { OnOk result ((start : Device)
-        → HasPulledAhead start (S.state source.old) gathered.old ahead.old
-        → Ends 0 start (S.state source.old) → HasPulled start (S.state source.new) gathered.new
-        × IsAllOf start (S.state source.new) gathered.new) }
-    ensures stays { OnOk result (StaysSettled gathered.old.opened gathered.new.opened) }
+        → HasPulledAhead start (S.state source.old) ahead.old gathered.old
+        → Ends 0 start (S.state source.old) → Works start (S.state source.new)
+        × HasPulledAll start (S.state source.new) [] gathered.new) }
+    ensures stays { OnOk result (StaysSettled gathered.old.opened.book gathered.new.opened.book) }
     ensures fault { IfErr result (λ f. (start : Device)
-        → HasPulledAhead start (S.state source.old) gathered.old ahead.old
+        → HasPulledAhead start (S.state source.old) ahead.old gathered.old
         → ReadFails f start (S.state source.new)) }
 {
     'groups: loop {
         if gathered.pull_ahead(rt, alloc, source, piece, ahead)? {
-            gathered.take_ahead(rt, alloc, ahead)?;
+            gathered.take_ahead(rt, ahead)?;
             return Ok(());
         }
     }
 }
 
-// Gathers all that a source has, and takes it.
+// Takes all that a source has.
 fn pull_all<R: Threads + Sync, S: Source>(
     rt: &R,
     alloc: Global,
@@ -113,12 +112,11 @@ fn pull_all<R: Threads + Sync, S: Source>(
     requires sound { CanBeUsed (S.state source.old) }
     requires some { 0 < length piece.old }
     requires few { length piece.old ≤ PIECE }
-    requires first { HasGathered [] [] gathered.old }
+    requires first { followed gathered.old.cutter gathered.old.opened ≡ unfed }
     ensures works { OnOk result (Works (S.state source.old) (S.state source.new)) }
-    ensures come { OnOk result ((bytes : List ℕ) × (taken : List Frame)
-        × HasGathered bytes taken gathered.new) }
-    ensures all { OnOk result (IsAllOf (S.state source.old) (S.state source.new) gathered.new) }
-    ensures stays { OnOk result (StaysSettled gathered.old.opened gathered.new.opened) }
+    ensures all { OnOk result (HasPulledAll (S.state source.old) (S.state source.new)
+        [] gathered.new) }
+    ensures stays { OnOk result (StaysSettled gathered.old.opened.book gathered.new.opened.book) }
     ensures fault { IfErr result (λ f. ReadFails f (S.state source.old) (S.state source.new)) }
 {
     if pull_opening(rt, alloc, source, piece, gathered)? {
@@ -150,9 +148,7 @@ impl Follower {
             × (self.new.fault ≡ None)) }
         ensures come { OnOk result (GaveAll (S.state source.old) (S.state source.new)
             (λ bytes. AllHasCome bytes self.new)) }
-        ensures order { OnOk result (ordered_in self.new.book ≡ nothing_ordered) }
-        ensures rests { OnOk result (receipts_in self.new.book ≡ []) }
-        ensures counts { OnOk result (counts_in self.new.book ≡ []) }
+        ensures stays { OnOk result (StaysSettled self.old.book self.new.book) }
         ensures broken { IfErr result (λ f. self.new ≡ broken f) }
         ensures fault { IfErr result (λ f. ReadFails f (S.state source.old) (S.state source.new)) }
     {

@@ -1,15 +1,15 @@
 -- A feed of which frames are judged ahead of those that are taken.
-use Rattle.std.specs.Prelude.{◌≡◌, ℕ, List, ◌++◌, flat_map, Option, None, Some}
+use Rattle.std.specs.Prelude.{◌≡◌, List, ◌++◌, flat_map, Option, None, Some}
 use Rattle.bk_base.specs.declared.version.Version.{Version}
 use Rattle.bk_base.specs.Feed.{Frame}
 use Rattle.bk_committee.specs.Payload.{CommitteeValue}
-use Rattle.bk_frames.specs.Device.{Device, Works, Gives}
-use Rattle.bk_frames.specs.Cutting.{Cuts, IsOpen, fresh, frames_in}
+use Rattle.bk_frames.specs.Device.{Device}
 use Rattle.bk_order.specs.Ahead.{AheadValue, JudgedValue}
 use Rattle.bk_follow.specs.declared.gathering.Inbox.{Inbox}
 use Rattle.bk_follow.specs.declared.opening.Opened.{Opened}
 use Rattle.bk_follow.specs.Follower.{BookValue, FollowsBy}
 use Rattle.bk_follow.specs.private.Books.{HasFollowed}
+use Rattle.bk_follow.specs.private.Gathering.{HasPulled}
 
 -- the book is open
 abbrev pub HasBook : Opened → Type 0
@@ -23,24 +23,10 @@ IsOpenFor k o = (b : BookValue) × (o.book ≡ Some b) × (b.taken.committee ≡
 abbrev pub frames_ahead : AheadValue → List Frame
 frames_ahead a = flat_map (λ fs. fs) a.groups
 
--- these bytes came and are cut: of the frames that they make whole these are taken, those that follow are judged, and the
--- others wait
-pub record HasGatheredAhead (bytes : List ℕ) (taken : List Frame) (g : Inbox) (a : AheadValue) : Type 0 where
-  pub cuts : Cuts fresh bytes ((taken ++ frames_ahead a) ++ frames_in g.frames.items) g.cutter
-  pub is_open : IsOpen g.cutter
-  pub reads : g.cutter.fault ≡ None
-  pub version : Version
-  pub known : g.cutter.version ≡ Some version
-  pub follows : FollowsBy version taken g.opened.committee g.opened.book
-  pub opened : IsOpenFor a.committee g.opened
-
--- since `start` a source gave bytes that have all come here, and no call of it failed
-pub record HasPulledAhead (start now : Device) (g : Inbox) (a : AheadValue) : Type 0 where
-  pub bytes : List ℕ
-  pub taken : List Frame
-  pub works : Works start now
-  pub gave : Gives start now bytes
-  pub come : HasGatheredAhead bytes taken g a
+-- since `start` a source gave bytes that have all come to a book that is open: these frames of them are judged, and all
+-- before them taken
+abbrev pub HasPulledAhead : Device → Device → AheadValue → Inbox → Type 0
+HasPulledAhead start now a g = HasPulled start now (frames_ahead a) g × IsOpenFor a.committee g.opened
 
 -- frames that were judged can be taken, if there are any
 abbrev pub CanTakeJudged : Option JudgedValue → Opened → Type 0

@@ -1,15 +1,12 @@
 -- What is known of a book.
 use Rattle.std.specs.Prelude.{◌≡◌, ◌≤◌, ◌++◌, length, List, Option}
 use Rattle.bk_base.specs.declared.version.Version.{Version}
-use Rattle.bk_frames.specs.Device.{Device}
 use Rattle.bk_base.specs.Feed.{Frame, FeedValue, IsFeed, AreGoodFrom}
 use Rattle.bk_committee.specs.Payload.{CommitteeValue}
 use Rattle.bk_results.specs.declared.fault.Fault.{Fault}
 use Rattle.bk_results.specs.declared.fault.Fault.TheVariants as fault
-use Rattle.bk_results.specs.declared.status.Status.{Status}
-use Rattle.bk_answer.specs.Answers.{WritesAnswer, WritesNot}
 use Rattle.bk_follow.specs.Follower.{BookValue, FollowsBy, IsBookOf, IsCurrent, receipts_of_executed}
-use Rattle.bk_answer.specs.RunReport.{HasNoStopIn, IsReportOf, IsStopIn, HasPlaceIn}
+use Rattle.bk_answer.specs.RunReport.{HasNoStopIn, IsStopIn, HasPlaceIn}
 
 -- this is made of the good frames of a feed
 pub record IsGoodBook (feed : FeedValue) (b : BookValue) : Type 0 where
@@ -36,11 +33,3 @@ pub record HasFollowed (version : Version) (before more : List Frame) (committee
 -- the feeds whose settled book this is
 abbrev pub IsCurrentOf : BookValue → FeedValue → Type 0
 IsCurrentOf b feed = IsFeed feed × IsCurrent feed b
-
--- a report was written of a book that is settled
-abbrev pub WritesBook : BookValue → Device → Device → Status → Type 0
-WritesBook b before after answer = WritesAnswer (IsCurrentOf b) IsReportOf answer before after
-
--- why it was not, and how much of it is out
-abbrev pub WriteFails : BookValue → Device → Device → Fault → Type 0
-WriteFails b before after f = WritesNot (IsCurrentOf b) IsReportOf f before after

@@ -1,4 +1,4 @@
--- A feed whose frames are gathered before they are taken.
+-- A feed whose bytes are cut before their frames are taken.
 use Rattle.std.specs.Prelude.{◌≡◌, ◌<◌, ℕ, List, [], ◌++◌, Option, None, Some, Bool, true, false, Result, Ok, Err}
 use Rattle.bk_frames.specs.Device.{Device, Works, Gives, GaveAll, Ends, IsWhole}
 use Rattle.bk_base.specs.Feed.{Frame}
@@ -11,47 +11,45 @@ use Rattle.bk_base.specs.declared.version.Version.{Version}
 use Rattle.std.specs.Global.{Vec}
 use Rattle.bk_follow.specs.declared.gathering.Inbox.{Inbox}
 use Rattle.bk_follow.specs.declared.opening.Opened.{Opened}
-use Rattle.bk_follow.specs.Follower.{Follows, FollowsBy, counts_in, ordered_in, receipts_in}
+use Rattle.bk_follow.specs.Follower.{Follows, FollowsBy}
 use Rattle.bk_follow.specs.private.Books.{HasFollowed}
 
--- these bytes came and are cut: of the frames that they make whole these are taken, and the others wait
-pub record HasGathered (bytes : List ℕ) (taken : List Frame) (g : Inbox) : Type 0 where
-  pub cuts : Cuts fresh bytes (taken ++ frames_in g.frames.items) g.cutter
+-- these bytes came and are cut: of the frames that they make whole these are taken, and the others are left
+pub record HasGathered (bytes : List ℕ) (taken left : List Frame) (g : Inbox) : Type 0 where
+  pub cuts : Cuts fresh bytes (taken ++ left) g.cutter
   pub is_open : IsOpen g.cutter
   pub reads : g.cutter.fault ≡ None
   pub follows : Follows g.cutter.version taken g.opened.committee g.opened.book
 
--- since `start` a source gave bytes that have all come here, and no call of it failed
-pub record HasPulled (start now : Device) (g : Inbox) : Type 0 where
+-- since `start` a source gave bytes that have all come here, these frames of them are left, and no call of it failed
+pub record HasPulled (start now : Device) (left : List Frame) (g : Inbox) : Type 0 where
   pub bytes : List ℕ
   pub taken : List Frame
   pub works : Works start now
   pub gave : Gives start now bytes
-  pub come : HasGathered bytes taken g
+  pub come : HasGathered bytes taken left g
 
--- all bytes of the source have come, and all of their frames are taken
-pub record IsAllOf (start now : Device) (g : Inbox) : Type 0 where
-  pub none_waits : g.frames.items ≡ []
-  pub all : GaveAll start now (λ bytes. (taken : List Frame) × HasGathered bytes taken g)
+-- all bytes of the source have come, and these frames of them are left
+abbrev pub HasPulledAll : Device → Device → List Frame → Inbox → Type 0
+HasPulledAll start now left g = GaveAll start now (λ bytes. (taken : List Frame) × HasGathered bytes taken left g)
 
--- frames that wait can be taken, in a version once it is known
+-- the frames that are left are taken
+abbrev pub TakesAll : List Frame → Inbox → Inbox → Type 0
+TakesAll left old new =
+    (bytes : List ℕ) (taken : List Frame) → HasGathered bytes taken left old → (all : List Frame) × HasGathered bytes all [] new
+
+-- the next frames can be taken, in a version once it is known
 abbrev pub CanTake : Option Version → List Frame → Opened → Type 0
-CanTake None waiting o = Unit {0}
-CanTake (Some version) waiting o =
-    (before : List Frame) × HasFollowed version before waiting o.committee o.book
+CanTake None next o = Unit {0}
+CanTake (Some version) next o =
+    (before : List Frame) × HasFollowed version before next o.committee o.book
 
 -- they were taken after those before them; before the version is known nothing was
-abbrev pub TakesWaiting : Option Version → List Frame → Opened → Opened → Type 0
-TakesWaiting None waiting old new = new ≡ old
-TakesWaiting (Some version) waiting old new =
+abbrev pub TakesNext : Option Version → List Frame → Opened → Opened → Type 0
+TakesNext None next old new = new ≡ old
+TakesNext (Some version) next old new =
     (before : List Frame) → FollowsBy version before old.committee old.book
-    → FollowsBy version (before ++ waiting) new.committee new.book
-
--- what was settled stays as it is: the order, and what was executed of it
-pub record StaysSettled (old new : Opened) : Type 0 where
-  pub order : ordered_in new.book ≡ ordered_in old.book
-  pub receipts : receipts_in new.book ≡ receipts_in old.book
-  pub counts : counts_in new.book ≡ counts_in old.book
+    → FollowsBy version (before ++ next) new.committee new.book
 
 -- what a source gave has come, and after some frames these wait
 abbrev pub CanPull : Device → List (Kind × Vec ℕ) → Cut → Type 0

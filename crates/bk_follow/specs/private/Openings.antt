@@ -5,8 +5,7 @@ use Rattle.bk_base.specs.Committee.{is_committee}
 use Rattle.bk_base.specs.Feed.{Frame, feed_of}
 use Rattle.bk_base.specs.Genesis.{is_genesis}
 use Rattle.bk_committee.specs.Payload.{CommitteeValue, committee_of}
-use Rattle.bk_order.specs.Intake.{nothing_ordered}
-use Rattle.bk_follow.specs.Follower.{BookValue, IsBookOf, FollowsBy, counts_of_executed, receipts_of_executed}
+use Rattle.bk_follow.specs.Follower.{BookValue, IsBookOf, FollowsBy, StaysSettled}
 
 -- the payload is that of the first frame, and the others are left
 abbrev pub IsFirstOf : List ℕ → List Frame → List Frame → Type 0
@@ -35,7 +34,7 @@ abbrev pub IsOpening : CommitteeValue → Frame → BookValue → Type 0
 IsOpening k second b =
     ((version : Version) (first : Frame) → k ≡ committee_of version first.payload
     → IsBookOf (feed_of version (first ∷ second ∷ [])) b)
-    × (receipts_of_executed b.executed ≡ []) × (b.taken.ordered ≡ nothing_ordered) × (counts_of_executed b.executed ≡ [])
+    × StaysSettled None (Some b)
 
 -- the book is opened with the second frame, where the committee of the first is there
 abbrev pub OpensSecond : Option CommitteeValue → List Frame → Option CommitteeValue → Option BookValue

@@ -1,16 +1,11 @@
 -- What is known of a Follower's parts.
-use Rattle.std.specs.Prelude.{◌≡◌, ◌≤◌, length, Option, None}
-use Rattle.bk_frames.specs.Device.{Device, Fails}
-use Rattle.bk_frames.specs.Cutting.{Cut, EndsShort}
+use Rattle.std.specs.Prelude.{◌≡◌, ◌≤◌, ℕ, List, [], Option, None}
+use Rattle.bk_base.specs.Feed.{Frame}
+use Rattle.bk_frames.specs.Cutting.{Cut}
 use Rattle.bk_results.specs.declared.fault.Fault.{Fault}
 use Rattle.bk_results.specs.declared.fault.Fault.TheVariants as fault
 use Rattle.bk_follow.specs.declared.opening.Opened.{Opened}
-use Rattle.bk_results.specs.declared.status.Status.{Status}
-use Rattle.bk_results.specs.Devices.{IsUntouched}
-use Rattle.bk_follow.specs.Finishing.{OfFeed}
-use Rattle.bk_follow.specs.Follower.{Followed, broken, receipts_in}
-use Rattle.bk_answer.specs.Answers.{TextStops}
-use Rattle.bk_answer.specs.RunReport.{HasNoStopIn, IsReportOf, IsStopIn, HasPlaceIn}
+use Rattle.bk_follow.specs.Follower.{Followed, HasCome, broken}
 
 -- a Follower of these parts, in which no fault is kept
 abbrev pub followed : Cut → Opened → Followed
@@ -28,31 +23,8 @@ after_fault (fault.Write written) left = broken (fault.Write written)
 after_fault fault.Memory left = broken fault.Memory
 after_fault stop left = left
 
--- why a feed that is followed was not closed, but for the fault that is kept after it
-abbrev pub ClosesNot : Followed → Followed → Fault → Type 0
-ClosesNot old new (fault.Feed found) = EndsShort old.cut found
-ClosesNot old new (fault.Unfinished place) =
-    OfFeed old (λ feed. HasPlaceIn feed place) × (length (receipts_in old.book) ≤ place)
-ClosesNot old new (fault.Write written) = ⊥
-ClosesNot old new fault.Memory = OfFeed old HasNoStopIn
-ClosesNot old new stop = OfFeed old (λ feed. IsStopIn feed stop) × (new ≡ old)
-
--- why its order was not closed, but for the same
-abbrev pub OrdersNot : Followed → Followed → Fault → Type 0
-OrdersNot old new (fault.Feed found) = EndsShort old.cut found
-OrdersNot old new (fault.Unfinished place) = ⊥
-OrdersNot old new (fault.Write written) = ⊥
-OrdersNot old new fault.Memory = OfFeed old HasNoStopIn
-OrdersNot old new stop = OfFeed old (λ feed. IsStopIn feed stop) × (new ≡ old)
-
--- why a feed that is followed did not end in a report, but for the fault that is kept after it
-abbrev pub EndFails : Followed → Followed → Device → Device → Fault → Type 0
-EndFails old new before after (fault.Feed found) = EndsShort old.cut found × IsUntouched before after
-EndFails old new before after (fault.Unfinished place) =
-    OfFeed old (λ feed. HasPlaceIn feed place) × IsUntouched before after
-    × (length (receipts_in old.book) ≤ place)
-EndFails old new before after (fault.Write written) =
-    OfFeed old (λ feed. (answer : Status) × TextStops (IsReportOf feed answer) written before after) × Fails before after
-EndFails old new before after fault.Memory = OfFeed old HasNoStopIn × IsUntouched before after
-EndFails old new before after stop =
-    OfFeed old (λ feed. IsStopIn feed stop) × (new ≡ old) × IsUntouched before after
+-- the feed that has come may end here
+pub record EndsHere (v : Followed) : Type 0 where
+  pub come : (bytes : List ℕ) × (frames : List Frame) × HasCome bytes frames v
+  pub kept : v.cut.kept ≡ []
+  pub two : 2 ≤ v.cut.index

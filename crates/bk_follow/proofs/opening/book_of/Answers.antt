@@ -5,4 +5,4 @@ pub new-requires : goal.new-requires
 new-requires c = record { accounts = c.in_ok-rows.ensures.accounts }
 
 pub returns : goal.returns
-returns c = λ second same. opening_is c.args.committee c.args.payload.now c.in_ok-rows.rows.items c.in_ok-book.book second same c.in_ok-rows.ensures.rows c.in_ok-book.ensures.book c.in_ok-book.ensures.none c.in_ok-book.ensures.unordered c.in_ok-book.ensures.uncounted
+returns c = λ second same. opening_is c.args.committee c.args.payload.now c.in_ok-rows.rows.items c.in_ok-book.book second same c.in_ok-rows.ensures.rows c.in_ok-book.ensures.book c.in_ok-book.ensures.none

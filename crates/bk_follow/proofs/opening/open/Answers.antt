@@ -1,24 +1,12 @@
-use Rattle.std.proofs.Common.{refl, sym, ap, subst, ◌∙◌}
+use Rattle.std.proofs.Common.{Option, sym, subst}
 use Rattle.bk_frames.specs.Cutting.{frames_in}
-use Rattle.bk_follow.specs.Follower.{FollowsBy, counts_in, ordered_in, receipts_in}
+use Rattle.bk_follow.specs.Follower.{BookValue, FollowsBy, StaysSettled}
 use Rattle.bk_follow.specs.private.Books.{HasFollowed}
-use Rattle.bk_follow.proofs.Openings.{head_first, head_second, none_there, opened_stands, opened_now, nothing_counted, nothing_executed, nothing_settled, executed_same, executed_none}
+use Rattle.bk_follow.proofs.Openings.{head_first, head_second, none_there, opened_stands, opened_now, opened_stays, stays_itself}
 use Rattle.bk_follow.proofs.opening.open.Goals as goal
 
 pub returns-then-is_some-clause-opened : goal.returns-then-is_some-clause-opened
 returns-then-is_some-clause-opened c = λ before h. opened_stands c.args.version before (frames_in c.args.frames.now.items) c.args.opened.now.committee c.args.opened.now.book (sym c.if-is_some.ensures) h
-
-pub returns-then-is_some-clause-receipts : goal.returns-then-is_some-clause-receipts
-returns-then-is_some-clause-receipts c = refl
-
-pub returns-then-is_some-clause-counts : goal.returns-then-is_some-clause-counts
-returns-then-is_some-clause-counts c = refl
-
-pub returns-then-is_some-clause-order : goal.returns-then-is_some-clause-order
-returns-then-is_some-clause-order c = refl
-
-pub returns-then-is_some-clause-executed : goal.returns-then-is_some-clause-executed
-returns-then-is_some-clause-executed c = executed_same c.args.opened.now.book
 
 pub open_first-requires : goal.open_first-requires
 open_first-requires c = λ none.
@@ -37,20 +25,10 @@ returns-clause-opened c = λ before h. opened_now c.args.version before c.args.o
     (frames_in c.args.frames.now.items) (frames_in c.open_first.new.frames.items) (frames_in c.open_second.new.frames.items) c.open_second.new.opened.book c.in_ok-open_first.ensures c.in_ok-open_second.ensures
     (subst (FollowsBy c.args.version before c.args.opened.now.committee) (none_there c.args.opened.now.book (sym c.if-is_some.ensures)) h)
 
-pub returns-clause-receipts : goal.returns-clause-receipts
-returns-clause-receipts c =
-    nothing_executed c.open_first.new.committee c.open_second.new.opened.committee (frames_in c.open_first.new.frames.items) (frames_in c.open_second.new.frames.items) c.open_second.new.opened.book c.in_ok-open_second.ensures
-    ∙ ap receipts_in (sym (none_there c.args.opened.now.book (sym c.if-is_some.ensures)))
+pub returns-then-is_some-clause-stays : goal.returns-then-is_some-clause-stays
+returns-then-is_some-clause-stays c = stays_itself c.args.opened.now.book
 
-pub returns-clause-counts : goal.returns-clause-counts
-returns-clause-counts c =
-    nothing_counted c.open_first.new.committee c.open_second.new.opened.committee (frames_in c.open_first.new.frames.items) (frames_in c.open_second.new.frames.items) c.open_second.new.opened.book c.in_ok-open_second.ensures
-    ∙ ap counts_in (sym (none_there c.args.opened.now.book (sym c.if-is_some.ensures)))
-
-pub returns-clause-order : goal.returns-clause-order
-returns-clause-order c =
-    nothing_settled c.open_first.new.committee c.open_second.new.opened.committee (frames_in c.open_first.new.frames.items) (frames_in c.open_second.new.frames.items) c.open_second.new.opened.book c.in_ok-open_second.ensures
-    ∙ ap ordered_in (sym (none_there c.args.opened.now.book (sym c.if-is_some.ensures)))
-
-pub returns-clause-executed : goal.returns-clause-executed
-returns-clause-executed c = executed_none c.args.opened.now.book _ (sym c.if-is_some.ensures)
+pub returns-clause-stays : goal.returns-clause-stays
+returns-clause-stays c =
+    subst (λ (o : Option BookValue). StaysSettled o c.open_second.new.opened.book) (sym (none_there c.args.opened.now.book (sym c.if-is_some.ensures)))
+    (opened_stays c.open_first.new.committee c.open_second.new.opened.committee (frames_in c.open_first.new.frames.items) (frames_in c.open_second.new.frames.items) c.open_second.new.opened.book c.in_ok-open_second.ensures)

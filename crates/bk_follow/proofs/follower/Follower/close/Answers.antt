@@ -1,40 +1,28 @@
-use Rattle.std.proofs.Common.{◌≡◌, sym, subst, ◌∙◌}
-use Rattle.bk_follow.specs.Follower.{Followed, HasCome}
-use Rattle.bk_follow.specs.Finishing.{Closes, CloseFails}
-use Rattle.bk_follow.specs.private.Parts.{followed}
-use Rattle.bk_follow.proofs.Following.{follower_of, close_stop_same, close_fails, works_unbroken, left_now}
+use Rattle.std.proofs.Common.{ap, subst, ◌∙◌}
+use Rattle.std.proofs.lemmas.Result.{err_from_is_err_and}
+use Rattle.bk_follow.specs.Follower.{Followed, SettleFails}
+use Rattle.bk_follow.proofs.Following.{close_unended, close_unsettled, closes, no_fault}
 use Rattle.bk_follow.proofs.follower.Follower.close.Goals as goal
 
-pub invariant_of-self : goal.invariant_of-self
-invariant_of-self g c = (
-  λ none.
-      let inv = c.self.invariant.0 c.in_default.is in
-      (inv.0, inv.1, (c.in-Ok.ensures.closed.settled inv.0 inv.1 inv.2).0),
-  λ none. c.self.invariant.1 c.in_default.is,
-  works_unbroken c.self.inside.fault (followed c.self.inside.gathered.cutter c.settle_at_end.new.opened) c.in_default.is,
-)
+pub returns-in_err-end_here-clause-fault : goal.returns-in_err-end_here-clause-fault
+returns-in_err-end_here-clause-fault g c =
+    let p = err_from_is_err_and c.from_residual.result c.from_residual.ensures.1 in
+    rw (p.1, p.2) (λ works. close_unended c.in_err-end_here.field-0.0 c.args.self.now c.end_here.new.self (c.in_err-end_here.ensures.fault works))
 
-pub invariant_of-self-in-Err : goal.invariant_of-self-in-Err
-invariant_of-self-in-Err g c = (
-  λ none.
-      let inv = c.self.invariant.0 c.in_default.is in
-      let same = close_stop_same c.in-Err.fault (followed c.self.inside.gathered.cutter c.self.inside.gathered.opened) (followed c.self.inside.gathered.cutter c.settle_at_end.new.opened) (sym c.latch_unless_stop.ensures.standing ∙ none) c.in-Err.ensures.fault in
-      (inv.0, inv.1, subst (HasCome inv.0 inv.1) (sym (left_now c.in-Err.fault (followed c.self.inside.gathered.cutter c.settle_at_end.new.opened) c.latch_unless_stop.new.gathered.cutter c.latch_unless_stop.new.gathered.opened.committee c.latch_unless_stop.new.gathered.opened.book c.latch_unless_stop.new.standing none c.latch_unless_stop.ensures.standing c.latch_unless_stop.ensures.left ∙ same)) inv.2),
-  λ none. c.latch_unless_stop.ensures.none_waits,
-  c.latch_unless_stop.ensures.emptied,
-)
+pub returns-in_err-settle-clause-fault : goal.returns-in_err-settle-clause-fault
+returns-in_err-settle-clause-fault g c =
+    let p = err_from_is_err_and c.from_residual-in_err-settle.result c.from_residual-in_err-settle.ensures.1 in
+    rw (p.1, p.2) (λ works. close_unsettled c.in_err-settle.field-0.0 c.args.self.now c.settle.new.self c.in_ok-end_here.ensures.ends
+    (subst (λ (v : Followed). SettleFails v c.settle.new.self c.in_err-settle.field-0.0) c.in_ok-end_here.ensures.stays (c.in_err-settle.ensures.fault (ap (λ (v : Followed). v.fault) c.in_ok-end_here.ensures.stays ∙ c.in_ok-end_here.ensures.ends.come.2.works))))
 
-pub returns-in-Ok-clause-closed : goal.returns-in-Ok-clause-closed
-returns-in-Ok-clause-closed g c =
-    let none = c.in_default.is in
-    let old : followed c.self.inside.gathered.cutter c.self.inside.gathered.opened ≡ c.args.self.now = (λ i. follower_of c.self.inside.gathered.cutter c.self.inside.gathered.opened.committee c.self.inside.gathered.opened.book (sym none i)) ∙ c.self.view_is in
-    let new : followed c.self.inside.gathered.cutter c.settle_at_end.new.opened ≡ follower_of c.self.inside.gathered.cutter c.settle_at_end.new.opened.committee c.settle_at_end.new.opened.book c.self.inside.fault = λ i. follower_of c.self.inside.gathered.cutter c.settle_at_end.new.opened.committee c.settle_at_end.new.opened.book (sym none i) in
-    subst (λ (p : Followed × Followed). Closes p.0 p.1) (λ i. (old i, new i)) c.in-Ok.ensures.closed
+pub returns-in_err-settle-clause-again : goal.returns-in_err-settle-clause-again
+returns-in_err-settle-clause-again g c = no_fault c.args.self.now.fault _ c.in_ok-end_here.ensures.ends.come.2.works
 
-pub returns-in-Err-clause-fault : goal.returns-in-Err-clause-fault
-returns-in-Err-clause-fault g c = λ _.
-    let none = c.in_default.is in
-    let old : followed c.self.inside.gathered.cutter c.self.inside.gathered.opened ≡ c.args.self.now = (λ i. follower_of c.self.inside.gathered.cutter c.self.inside.gathered.opened.committee c.self.inside.gathered.opened.book (sym none i)) ∙ c.self.view_is in
-    rw c.latch_unless_stop.ensures.same
-    (subst (λ (p : Followed). CloseFails p (follower_of c.latch_unless_stop.new.gathered.cutter c.latch_unless_stop.new.gathered.opened.committee c.latch_unless_stop.new.gathered.opened.book c.latch_unless_stop.new.standing) c.in-Err.fault) old
-    (close_fails c.in-Err.fault (followed c.self.inside.gathered.cutter c.self.inside.gathered.opened) (followed c.self.inside.gathered.cutter c.settle_at_end.new.opened) (follower_of c.latch_unless_stop.new.gathered.cutter c.latch_unless_stop.new.gathered.opened.committee c.latch_unless_stop.new.gathered.opened.book c.latch_unless_stop.new.standing) c.latch_unless_stop.ensures.left c.in-Err.ensures.fault))
+pub returns-clause-again : goal.returns-clause-again
+returns-clause-again g c = no_fault c.args.self.now.fault _ c.in_ok-end_here.ensures.ends.come.2.works
+
+pub returns-clause-works : goal.returns-clause-works
+returns-clause-works g c = (c.in_ok-end_here.ensures.ends.come.2.works, c.in_ok-settle.ensures.works.1)
+
+pub returns-clause-closed : goal.returns-clause-closed
+returns-clause-closed g c = closes c.args.self.now c.end_here.new.self c.settle.new.self c.in_ok-settle.field-0 c.in_ok-end_here.ensures.ends c.in_ok-end_here.ensures.stays c.in_ok-settle.ensures.settled

@@ -17,7 +17,6 @@ invariant_of-self-in-Ok c = (
       let inv = c.self.invariant.0 none in
       let good = good_of inv.0 inv.1 (followed c.self.inside.gathered.cutter c.self.inside.gathered.opened) c.in-Some-book.book inv.2 c.in-Some-book.is in
       (inv.0, inv.1, come_on inv.0 inv.1 c.self.inside.gathered.cutter c.self.inside.gathered.opened.committee c.settle_order.new.self None (followed c.self.inside.gathered.cutter c.self.inside.gathered.opened) c.in-Some-book.book refl inv.2 good refl (c.in-Ok.ensures.order _ good.good).book),
-  λ none. c.self.invariant.1 none,
   works_unbroken c.self.inside.fault (follower_of c.self.inside.gathered.cutter c.self.inside.gathered.opened.committee (Some c.settle_order.new.self) None) c.in_default.is,
 )
 
@@ -33,7 +32,6 @@ invariant_of-self-in-Err c = (
             (come_on inv.0 inv.1 c.self.inside.gathered.cutter c.self.inside.gathered.opened.committee c.settle_order.new.self None (followed c.self.inside.gathered.cutter c.self.inside.gathered.opened) c.in-Some-book.book refl inv.2 good refl
             (subst (IsBookOf _) (sym same) good.good.book)),
       ),
-  λ none. c.latch_unless_stop.ensures.none_waits,
   c.latch_unless_stop.ensures.emptied,
 )
 
