@@ -22,6 +22,14 @@ take_at_next [] i x e = absurd cc
 take_at_next (y ∷ xs) zero x e = let same : y ≡ x = cc in ap (λ b. b ∷ []) same
 take_at_next (y ∷ xs) (suc i) x e = let k : suc i + 1 ≡ suc (i + 1) = omega arith in rw k (ap (λ t. y ∷ t) (take_at_next xs i x e))
 
+-- the places of the first batches are among all
+pub taken_within : (payloads : List (List ℕ)) (i : ℕ) → length (transactions_of (take i payloads)) ≤ length (transactions_of payloads)
+taken_within payloads i =
+    let whole = ap (λ (ps : List (List ℕ)). length (transactions_of ps)) (sym (take-append-drop i payloads)) in
+    let two = ap length (flat_map-append transactions_in (take i payloads) (drop i payloads)) in
+    let sum = length-append (transactions_of (take i payloads)) (transactions_of (drop i payloads)) in
+    omega (arith, whole, two, sum)
+
 module _ (payloads : List (List ℕ)) (i : ℕ) (payload : List ℕ) (here : slice_get payloads i ≡ Some payload) where
   -- the rows of a batch and of those after it
   pub batch_rows : (ids : Option (List ℕ)) (receipts : List Receipt) (place next : ℕ) → next ≡ place + length (transactions_in payload)
@@ -43,12 +51,7 @@ module _ (payloads : List (List ℕ)) (i : ℕ) (payload : List ℕ) (here : sli
 
   -- its places are among all
   pub places_inside : length (transactions_of (take i payloads)) + length (transactions_in payload) ≤ length (transactions_of payloads)
-  places_inside =
-      let next = next_place in
-      let whole = ap (λ (ps : List (List ℕ)). length (transactions_of ps)) (sym (take-append-drop (i + 1) payloads)) in
-      let two = ap length (flat_map-append transactions_in (take (i + 1) payloads) (drop (i + 1) payloads)) in
-      let sum = length-append (transactions_of (take (i + 1) payloads)) (transactions_of (drop (i + 1) payloads)) in
-      omega (arith, next, whole, two, sum)
+  places_inside = let next = next_place in let within = taken_within payloads (i + 1) in omega (arith, next, within)
 
 -- the count of a batch
 pub count_here : (payloads : List (List ℕ)) (counts : List (Option ℕ)) (i : ℕ) (d : Option ℕ) (payload : List ℕ) → counts ≡ map count_in payloads → i < length counts → slice_get payloads i ≡ Some payload → get_or counts i d ≡ count_in payload

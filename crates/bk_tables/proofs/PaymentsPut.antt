@@ -1,10 +1,9 @@
 -- The payments of an order that grows.
-use Rattle.std.proofs.Common.{◌≡◌, ◌∙◌, ℕ, ◌+◌, ◌≤◌, List, [], ◌∷◌, ◌++◌, length, drop, get_or, take, Option, refl, sym, ap, append_assoc, length-append, arith}
+use Rattle.std.proofs.Common.{◌≡◌, ◌∙◌, ℕ, ◌+◌, ◌-◌, ◌*◌, ◌≤◌, List, [], ◌∷◌, ◌++◌, length, drop, get_or, take, Option, refl, sym, ap, append_assoc, length-append, arith}
 use Rattle.std.proofs.lemmas.List.{drop_at, get_or_append_left, length-take-le, take-append-drop}
 use Rattle.std.proofs.lemmas.List.Concat.{flat_map-append, flat_map-cons}
 use Rattle.bk_base.specs.declared.genesis.Row.{Row}
 use Rattle.bk_base.specs.declared.version.Version.{Version}
-use Rattle.bk_base.specs.Feed.{FeedValue}
 use Rattle.bk_commit.specs.Growth.{IsPrefix}
 use Rattle.bk_rules.specs.declared.receipt.Receipt.{Receipt}
 use Rattle.bk_rules.specs.declared.receipt.Status.TheVariants as status
@@ -12,16 +11,15 @@ use Rattle.bk_rules.specs.Fold.{receipts_of, state_after}
 use Rattle.bk_rules.proofs.Folding.{length-receipts, receipts_append}
 use Rattle.bk_tx.specs.Batches.{transactions_in, transactions_of}
 use Rattle.bk_tx.specs.Transaction.{Transaction}
-use Rattle.bk_answer.specs.Answers.{IsMadeOf}
 use Rattle.bk_answer.specs.Closed.{ClosedValue}
-use Rattle.bk_frames.specs.Device.{Device, Fails, Works}
-use Rattle.bk_report.specs.Pages.{Puts, Stops}
-use Rattle.bk_results.specs.declared.fault.Fault.TheVariants as fault
+use Rattle.bk_answer.proofs.Reports.{IsMade}
 use Rattle.bk_tables.specs.Growing.{ShowsFirst, Shown}
 use Rattle.bk_tables.specs.Payments.{payments_text, rows_at, rows_from, rows_in}
 use Rattle.bk_tables.specs.declared.payment.PaymentRow.{PaymentRow}
 use Rattle.bk_tables.proofs.TableTexts.{payments_two}
-use Rattle.bk_tables.specs.Kinds.{IsMore, PutsMore, PutsNoMore, payloads_in, payments}
+use Rattle.bk_tables.proofs.BatchWalks.{taken_within}
+use Rattle.bk_tables.proofs.PaymentTables.{receipts_each}
+use Rattle.bk_tables.specs.Kinds.{IsMore, payloads_in, payments}
 
 -- ---- the rows of a place stay where more receipts come
 
@@ -80,20 +78,17 @@ payments_more ids v genesis xs payloads receipts batch place begins are e f =
 
 -- ---- what a call puts
 
-module _ (ids : Option (List ℕ)) (c : ClosedValue) (made : (feed : FeedValue) × IsMadeOf c feed) (rows : Shown) (h : ShowsFirst 1800 (payloads_in c) rows) where
-  is_more : IsMore (payments ids) c rows.batch (payments_text ids (rows_from c.ledger.receipts rows.batch rows.place (drop rows.batch (payloads_in c))))
-  is_more =
-      let closed = made.1.1 in
-      let receipts : c.ledger.receipts ≡ receipts_of c.ledger.state.version (transactions_of (payloads_in c)) c.order.opening =
-      closed.executed.receipts ∙ (λ i. receipts_of (sym closed.executed.version i) (transactions_of (payloads_in c)) (sym closed.order.opening i)) in
-      payments_more ids c.ledger.state.version c.order.opening (take rows.batch (payloads_in c)) (payloads_in c) c.ledger.receipts rows.batch rows.place
-      (drop rows.batch (payloads_in c), sym (take-append-drop rows.batch (payloads_in c))) receipts (sym (length-take-le rows.batch (payloads_in c) h.within)) h.places
-
-  abbrev more : List ℕ
+module _ (ids : Option (List ℕ)) (c : ClosedValue) (made : IsMade c) (rows : Shown) (h : ShowsFirst (payloads_in c) rows) where
+  abbrev pub more : List ℕ
   more = payments_text ids (rows_from c.ledger.receipts rows.batch rows.place (drop rows.batch (payloads_in c)))
 
-  pub payments_put : (old new : Device) (after : Shown) → Works old new × Puts old new rows.page after.page more → PutsMore (payments ids) c old new rows after
-  payments_put old new after put = (more, is_more, put.0, put.1)
-
-  pub payments_stop : (old new : Device) (written : ℕ) → Fails old new × Stops old new rows.page more written → PutsNoMore (payments ids) c old new rows (fault.Write written)
-  payments_stop old new written stop = (more, is_more, stop.0, stop.1)
+  pub is_more : length more ≤ 1800 * (length c.ledger.receipts - rows.place) → IsMore (payments ids) c rows.batch more
+  is_more few = record {
+    rows =
+        let closed = made.1.1 in
+        let receipts : c.ledger.receipts ≡ receipts_of c.ledger.state.version (transactions_of (payloads_in c)) c.order.opening =
+        closed.executed.receipts ∙ (λ i. receipts_of (sym closed.executed.version i) (transactions_of (payloads_in c)) (sym closed.order.opening i)) in
+        payments_more ids c.ledger.state.version c.order.opening (take rows.batch (payloads_in c)) (payloads_in c) c.ledger.receipts rows.batch rows.place
+        (drop rows.batch (payloads_in c), sym (take-append-drop rows.batch (payloads_in c))) receipts (sym (length-take-le rows.batch (payloads_in c) h.within)) h.places;
+    short = let within = taken_within (payloads_in c) rows.batch in let each = receipts_each c made in omega (arith, few, within, each, h.places);
+  }

@@ -1,15 +1,11 @@
 -- The postings of an order that grows, from the accounts after the batches that are shown.
 use Rattle.std.proofs.Common.{◌≡◌, ◌∙◌, ℕ, ◌+◌, List, ◌++◌, length, drop, take, Option, Some, refl, sym, ap, subst, length-append, take_all, arith}
-use Rattle.std.specs.Prelude.{Result}
 use Rattle.std.proofs.lemmas.List.{take-append-drop}
 use Rattle.std.proofs.lemmas.List.Concat.{flat_map-append}
 use Rattle.bk_base.specs.declared.genesis.Row.{Row}
 use Rattle.bk_base.specs.declared.version.Version.{Version}
 use Rattle.bk_answer.specs.Closed.{ClosedValue}
 use Rattle.bk_answer.proofs.Reports.{IsMade}
-use Rattle.bk_frames.specs.Device.{Device, Fails}
-use Rattle.bk_frames.specs.declared.writing.WriteFault.{WriteFault}
-use Rattle.bk_report.specs.Pages.{PageValue, Stops, Written}
 use Rattle.bk_rules.specs.Fold.{HasRoom, state_after}
 use Rattle.bk_rules.specs.Ledger.{Ledger, ledger_of}
 use Rattle.bk_rules.proofs.Folding.{state_append}
@@ -18,15 +14,8 @@ use Rattle.bk_tx.specs.Batches.{transactions_in, transactions_of}
 use Rattle.bk_tx.specs.Transaction.{Transaction}
 use Rattle.bk_tables.specs.Growing.{AreAfter, HasWalked, IsReadyFor, Walked, course_in}
 use Rattle.bk_tables.specs.Postings.{postings_from}
-use Rattle.bk_tables.specs.private.Walking.{IsReady, walk_rows}
+use Rattle.bk_tables.specs.private.Walking.{HasSlotsFor, walk_rows}
 use Rattle.bk_tables.proofs.PostingTables.{opening_room, walk_from}
-
--- the same text by other words
-pub stops_as : (a b : Device) (p : PageValue) (text text' : List ℕ) (written : ℕ) → text ≡ text' → Fails a b × Stops a b p text written → Fails a b × Stops a b p text' written
-stops_as a b p text text' written e h = subst (λ (t : List ℕ). Fails a b × Stops a b p t written) e h
-
-pub written_as : {X : Type 0} (result : Result X WriteFault) (a b : Device) (p q : PageValue) (text text' : List ℕ) → text ≡ text' → Written result a b p q text → Written result a b p q text'
-written_as {X} result a b p q text text' e h = subst (λ (t : List ℕ). Written result a b p q t) e h
 
 module _ (c : ClosedValue) (w : Walked) where
   abbrev payloads : List (List ℕ)
@@ -46,7 +35,7 @@ module _ (c : ClosedValue) (w : Walked) where
   splits = ap transactions_of (sym (take-append-drop w.shown.batch payloads)) ∙ flat_map-append transactions_in (take w.shown.batch payloads) (drop w.shown.batch payloads)
 
   -- the accounts are there, with their slots
-  pub is_ready : (old new : Ledger) → HasWalked c (record { shown = w.shown; state = Some old }) → IsReady more old new → IsReadyFor c (record { shown = w.shown; state = Some new })
+  pub is_ready : (old new : Ledger) → HasWalked c (record { shown = w.shown; state = Some old }) → HasSlotsFor more old new → IsReadyFor c (record { shown = w.shown; state = Some new })
   is_ready old new h r = record {
     ledger = new;
     known = refl;

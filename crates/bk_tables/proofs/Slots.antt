@@ -8,7 +8,7 @@ use Rattle.bk_tx.specs.Batches.{transactions_in, transactions_of}
 use Rattle.bk_tx.specs.Transaction.{Transaction}
 use Rattle.bk_rules.specs.Ledger.{IsPrepared, Ledger, are_covered, has_slot, has_slot_after, is_declared_by}
 use Rattle.bk_ledger.proofs.Covering.{covered_both, covered_kept}
-use Rattle.bk_tables.specs.private.Walking.{IsReady}
+use Rattle.bk_tables.specs.private.Walking.{HasSlotsFor}
 use Rattle.bk_tables.proofs.BatchWalks.{drop_at, take_at_next}
 use Rattle.bk_tables.proofs.TableTexts.{drop_past}
 
@@ -16,7 +16,7 @@ use Rattle.bk_tables.proofs.TableTexts.{drop_past}
 pub record AreMaking (all waiting : List (Option Transaction)) (old now : Ledger) : Type 0 where
   pub done : List (Option Transaction)
   pub split : all ≡ done ++ waiting
-  pub ready : IsReady done old now
+  pub ready : HasSlotsFor done old now
 
 pub making_begun : (l : Ledger) → AreMaking [] [] l l
 making_begun l = record { done = []; split = refl; ready = record { version = refl; rows = refl; covered = refl } }
@@ -49,8 +49,8 @@ making_made all waiting old now after h p covers =
       };
     }
 
-pub all_made : (all : List (Option Transaction)) (old now : Ledger) → AreMaking all [] old now → IsReady all old now
-all_made all old now h = subst (λ (ts : List (Option Transaction)). IsReady ts old now) (sym (h.split ∙ append-nil h.done)) h.ready
+pub all_made : (all : List (Option Transaction)) (old now : Ledger) → AreMaking all [] old now → HasSlotsFor all old now
+all_made all old now h = subst (λ (ts : List (Option Transaction)). HasSlotsFor ts old now) (sym (h.split ∙ append-nil h.done)) h.ready
 
 -- ---- the transactions of batches
 

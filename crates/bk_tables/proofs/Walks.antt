@@ -1,5 +1,5 @@
 -- Batches and their texts, one after another.
-use Rattle.std.proofs.Common.{◌≡◌, ℕ, zero, suc, ◌+◌, ◌<◌, Bool, true, false, cond, eqb, List, [], ◌∷◌, ◌++◌, length, get_or, map, Option, Some, None, refl, sym, ap, subst, ◌∙◌, arith}
+use Rattle.std.proofs.Common.{◌≡◌, ℕ, zero, suc, ◌+◌, ◌<◌, ◌≤◌, Bool, true, false, cond, eqb, List, [], ◌∷◌, ◌++◌, length, get_or, map, Option, Some, None, refl, sym, ap, subst, ◌∙◌, arith}
 use Rattle.std.specs.Prelude.{IsSome, option_and_then, option_map, unwrap_or}
 use Rattle.std.specs.Int.{w16}
 use Rattle.std.proofs.lemmas.List.{get_or_default, length-map}
@@ -8,12 +8,11 @@ use Rattle.std.proofs.lemmas.Bool.{eqb-true}
 use Rattle.bk_base.specs.Numbers.{list_at, number_at}
 use Rattle.bk_tx.specs.Batches.{count_in, transactions_in}
 use Rattle.bk_tx.specs.Reading.{text_at, texts_of, transaction_of}
-use Rattle.bk_frames.specs.Device.{Device, Fails, Works}
-use Rattle.bk_report.specs.Pages.{PageValue, Puts, Stops}
+use Rattle.bk_report.specs.Pages.{Desk, IsReady, Puts}
 use Rattle.bk_rules.specs.declared.receipt.Receipt.{Receipt}
 use Rattle.bk_tables.specs.Payments.{payments_text, receipt_at, rows_at, rows_in}
 use Rattle.bk_tx.specs.Transaction.{Transaction}
-use Rattle.bk_tables.proofs.Done.{IsDone, all_done, begun, done_stops, next_done}
+use Rattle.bk_tables.proofs.Done.{IsDone, all_done, begun, next_done}
 use Rattle.bk_tables.proofs.TableTexts.{payments_two}
 
 -- ---- the texts of a batch
@@ -102,18 +101,18 @@ texts_there payload some e = no_some _ (ap (λ (o : Option (ℕ × List ℕ)). o
 -- ---- the rows of a batch
 
 -- of a batch the rows of these texts, of which there are n, are left, the first at this place
-pub record InBatch (ids : Option (List ℕ)) (receipts : List Receipt) (batch place n : ℕ) (texts : List ℕ) (a b : Device) (p q : PageValue) (whole : List ℕ) : Type 0 where
+pub record InBatch (ids : Option (List ℕ)) (receipts : List Receipt) (batch place n : ℕ) (texts : List ℕ) (a b : Desk) (most : ℕ) (whole : List ℕ) : Type 0 where
   pub left : List (List ℕ)
   pub reads : list_at text_at n texts ≡ Some (left, [])
-  pub put : IsDone a b p q whole (payments_text ids (rows_in receipts batch place (map transaction_of left)))
+  pub put : IsDone a b most whole (payments_text ids (rows_in receipts batch place (map transaction_of left)))
 
 -- before the first
-pub batch_begun : (ids : Option (List ℕ)) (receipts : List Receipt) (batch place count : ℕ) (rest payload : List ℕ) (a : Device) (p : PageValue) → AreTextsOf count rest payload
-    → InBatch ids receipts batch place count rest a a p p (payments_text ids (rows_in receipts batch place (transactions_in payload)))
-batch_begun ids receipts batch place count rest payload a p t = record {
+pub batch_begun : (ids : Option (List ℕ)) (receipts : List Receipt) (batch place count : ℕ) (rest payload : List ℕ) {a : Desk} (most : ℕ) → IsReady a → AreTextsOf count rest payload
+    → InBatch ids receipts batch place count rest a a most (payments_text ids (rows_in receipts batch place (transactions_in payload)))
+batch_begun ids receipts batch place count rest payload {a} most ready t = record {
   left = t.texts;
   reads = t.reads;
-  put = begun a p _ _ (ap (λ (ts : List (Option Transaction)). payments_text ids (rows_in receipts batch place ts)) (sym (transactions_are count rest payload t)));
+  put = begun most _ _ ready (ap (λ (ts : List (Option Transaction)). payments_text ids (rows_in receipts batch place ts)) (sym (transactions_are count rest payload t)));
 }
 
 -- the rows of the next text and those after it
@@ -124,8 +123,8 @@ text_rows ids receipts batch place left text more e =
     ap (λ (ts : List (List ℕ)). payments_text ids (rows_in receipts batch place (map transaction_of ts))) e
     ∙ payments_two ids (rows_at (record { place = place; batch = batch; receipt = receipt_at receipts place }) (transaction_of text)) (rows_in receipts batch (place + 1) (map transaction_of more))
 
-module _ (ids : Option (List ℕ)) (receipts : List Receipt) (batch place n : ℕ) (texts new text : List ℕ) (a b : Device) (p q : PageValue) (whole : List ℕ)
-    (h : InBatch ids receipts batch place (suc n) texts a b p q whole) (first : Some (text, new) ≡ text_at texts) where
+module _ (ids : Option (List ℕ)) (receipts : List Receipt) (batch place n : ℕ) (texts new text : List ℕ) {a b : Desk} {m : ℕ} {whole : List ℕ}
+    (h : InBatch ids receipts batch place (suc n) texts a b m whole) (first : Some (text, new) ≡ text_at texts) where
   next : IsNextText n texts h.left
   next = next_text_is n texts h.left h.reads
 
@@ -139,38 +138,27 @@ module _ (ids : Option (List ℕ)) (receipts : List Receipt) (batch place n : �
       ≡ payments_text ids (rows_at (record { place = place; batch = batch; receipt = receipt_at receipts place }) (transaction_of text)) ++ payments_text ids (rows_in receipts batch (place + 1) (map transaction_of next.more))
   splits = text_rows ids receipts batch place h.left text next.more (next.left_is ∙ ap (λ (t : List ℕ). t ∷ next.more) text_is)
 
-  pub text_put : (c : Device) (r : PageValue) (shown : List ℕ) → shown ≡ payments_text ids (rows_at (record { place = place; batch = batch; receipt = receipt_at receipts place }) (transaction_of text))
-      → Works b c × Puts b c q r shown → InBatch ids receipts batch (place + 1) n new a c p r whole
-  text_put c r shown e put = record {
+  pub text_put : {c : Desk} {k : ℕ} {shown : List ℕ} (most : ℕ) → shown ≡ payments_text ids (rows_at (record { place = place; batch = batch; receipt = receipt_at receipts place }) (transaction_of text)) → Puts b c k shown → m + k ≤ most → InBatch ids receipts batch (place + 1) n new a c most whole
+  text_put {c} {k} {shown} most e put few = record {
     left = next.more;
     reads = ap (list_at text_at n) (sym rest_is) ∙ next.others;
-    put = next_done a b c p q r whole _ shown _ (splits ∙ ap (λ (t : List ℕ). t ++ payments_text ids (rows_in receipts batch (place + 1) (map transaction_of next.more))) (sym e)) h.put put;
+    put = next_done most shown _ (splits ∙ ap (λ (t : List ℕ). t ++ payments_text ids (rows_in receipts batch (place + 1) (map transaction_of next.more))) (sym e)) h.put put few;
   }
 
-  pub text_stops : (c : Device) (shown : List ℕ) (written : ℕ) → shown ≡ payments_text ids (rows_at (record { place = place; batch = batch; receipt = receipt_at receipts place }) (transaction_of text))
-      → Fails b c × Stops b c q shown written → Fails a c × Stops a c p whole written
-  text_stops c shown written e stop =
-      done_stops a b c p q whole _ shown _ written (splits ∙ ap (λ (t : List ℕ). t ++ payments_text ids (rows_in receipts batch (place + 1) (map transaction_of next.more))) (sym e)) h.put stop
-
-pub text_missing : (ids : Option (List ℕ)) (receipts : List Receipt) (batch place n : ℕ) (texts : List ℕ) (a b : Device) (p q : PageValue) (whole : List ℕ)
-    → InBatch ids receipts batch place (suc n) texts a b p q whole → None ≡ text_at texts → ⊥
-text_missing ids receipts batch place n texts a b p q whole h e = let next = next_text_is n texts h.left h.reads in none_some (next.text, next.rest) (e ∙ next.first)
+pub text_missing : (ids : Option (List ℕ)) (receipts : List Receipt) (batch place m n : ℕ) (texts : List ℕ) {a b : Desk} {most : ℕ} {whole : List ℕ}
+    → m ≡ suc n → InBatch ids receipts batch place m texts a b most whole → None ≡ text_at texts → ⊥
+text_missing ids receipts batch place m n texts some h e = let next = next_text_is n texts h.left (ap (λ (k : ℕ). list_at text_at k texts) (sym some) ∙ h.reads) in none_some (next.text, next.rest) (e ∙ next.first)
 
 -- none is left
-pub batch_done : (ids : Option (List ℕ)) (receipts : List Receipt) (batch place : ℕ) (texts : List ℕ) (a b : Device) (p q : PageValue) (whole : List ℕ)
-    → InBatch ids receipts batch place 0 texts a b p q whole → Works a b × Puts a b p q whole
-batch_done ids receipts batch place texts a b p q whole h =
-    all_done a b p q whole _ (ap (λ (ts : List (List ℕ)). payments_text ids (rows_in receipts batch place (map transaction_of ts))) (no_texts texts h.left h.reads)) h.put
-
--- one is left at least
-pub some_left : (ids : Option (List ℕ)) (receipts : List Receipt) (batch place m n : ℕ) (texts : List ℕ) (a b : Device) (p q : PageValue) (whole : List ℕ)
-    → m ≡ suc n → InBatch ids receipts batch place m texts a b p q whole → InBatch ids receipts batch place (suc n) texts a b p q whole
-some_left ids receipts batch place m n texts a b p q whole e h = subst (λ (k : ℕ). InBatch ids receipts batch place k texts a b p q whole) e h
+pub batch_done : (ids : Option (List ℕ)) (receipts : List Receipt) (batch place n : ℕ) (texts : List ℕ) {a b : Desk} {m : ℕ} {whole : List ℕ} (most : ℕ)
+    → n ≡ 0 → InBatch ids receipts batch place n texts a b m whole → m ≤ most → Puts a b most whole
+batch_done ids receipts batch place n texts most none h few =
+    all_done most (ap (λ (ts : List (List ℕ)). payments_text ids (rows_in receipts batch place (map transaction_of ts))) (no_texts texts h.left (ap (λ (k : ℕ). list_at text_at k texts) (sym none) ∙ h.reads))) h.put few
 
 -- the same at a place by another name
-pub moved_on : (ids : Option (List ℕ)) (receipts : List Receipt) (batch place place' m n : ℕ) (texts : List ℕ) (a b : Device) (p q : PageValue) (whole : List ℕ)
-    → place ≡ place' → m ≡ n → InBatch ids receipts batch place m texts a b p q whole → InBatch ids receipts batch place' n texts a b p q whole
-moved_on ids receipts batch place place' m n texts a b p q whole e f h = subst (λ (x : ℕ × ℕ). InBatch ids receipts batch x.0 x.1 texts a b p q whole) (λ i. (e i, f i)) h
+pub moved_on : (ids : Option (List ℕ)) (receipts : List Receipt) (batch place place' m n : ℕ) (texts : List ℕ) {a b : Desk} {most : ℕ} {whole : List ℕ}
+    → place ≡ place' → m ≡ n → InBatch ids receipts batch place m texts a b most whole → InBatch ids receipts batch place' n texts a b most whole
+moved_on ids receipts batch place place' m n texts {a} {b} {most} {whole} e f h = subst (λ (x : ℕ × ℕ). InBatch ids receipts batch x.0 x.1 texts a b most whole) (λ i. (e i, f i)) h
 
 -- what is put for a text is its rows
 pub place_shown : (ids : Option (List ℕ)) (receipts : List Receipt) (batch place : ℕ) (d r : Receipt) (t t' : Option Transaction) → place < length receipts → r ≡ get_or receipts place d → t ≡ t'

@@ -1,35 +1,48 @@
 -- A table that is written all at once.
-use Rattle.std.proofs.Common.{◌≡◌, ◌∙◌, ℕ, ◌+◌, ◌*◌, ◌<◌, ◌≤◌, List, [], ◌++◌, length, sym, ap, subst, append-nil, arith}
-use Rattle.std.proofs.Math.Nat.{mul-le-mul_right}
+use Rattle.std.proofs.Common.{◌≡◌, ◌∙◌, ℕ, ◌+◌, ◌*◌, ◌^◌, ◌<◌, ◌≤◌, List, [], ◌++◌, length, refl, sym, ap, subst, append-nil, length-append, arith}
+use Rattle.std.specs.Prelude.{Result, Err}
+use Rattle.std.proofs.KnownBytes.{Appends-nil, Keeps-refl}
 use Rattle.bk_base.specs.declared.genesis.Row.{Row}
 use Rattle.bk_base.specs.declared.version.Version.{Version}
 use Rattle.bk_base.specs.Feed.{FeedValue}
-use Rattle.bk_frames.specs.Device.{Device, Fails, Works}
-use Rattle.bk_frames.specs.Writing.{StopsWriting, Writes}
+use Rattle.bk_frames.specs.Device.{Device}
+use Rattle.bk_frames.specs.Writing.{StopsWriting}
 use Rattle.bk_frames.specs.declared.writing.WriteFault.{WriteFault}
-use Rattle.bk_report.specs.Pages.{PageValue, Puts, Stops, blank}
-use Rattle.bk_report.proofs.Putting.{all_out, part_out, part_size, puts_then, stops_then}
-use Rattle.bk_answer.specs.Answers.{IsMadeOf}
+use Rattle.bk_report.specs.Pages.{Desk, HasPut, Puts, desk}
+use Rattle.bk_answer.specs.Answers.{IsMadeOf, WritesNot}
 use Rattle.bk_answer.specs.Closed.{ClosedValue}
 use Rattle.bk_answer.specs.RunReport.{reach_of}
-use Rattle.bk_tables.specs.Growing.{Shown, ShowsFirst, none_shown}
-use Rattle.bk_tables.specs.Kinds.{IsMore, IsTextOf, PutsMore, TableKind, payloads_in}
+use Rattle.bk_answer.proofs.Reports.{IsMade}
+use Rattle.bk_answer.proofs.Texts.{text_stops}
+use Rattle.bk_results.specs.Devices.{IsUntouched}
+use Rattle.bk_results.specs.declared.fault.Fault.{Fault}
+use Rattle.bk_results.specs.declared.fault.Fault.TheVariants as fault
+use Rattle.bk_tables.specs.Growing.{Shown, ShowsAll, ShowsFirst, none_shown}
+use Rattle.bk_tables.specs.Kinds.{IsMore, IsTextOf, MoreIsPut, OfAllPut, PutsMore, TableKind, WrittenOrWaits, payloads_in}
+use Rattle.bk_tx.specs.Batches.{transactions_of}
+use Rattle.bk_tables.proofs.Done.{still_put}
+use Rattle.bk_tables.proofs.PostingTables.{few_transactions}
 
--- ---- a text after a header that waits
+-- rows are put, and go out
+pub more_put : {X : Type 0} {d : Desk} {m : ℕ} (result : Result X WriteFault) (k : TableKind) (c : ClosedValue) (before after : Shown) (more : List ℕ) (old new : Device) → IsMore k c before.batch more → Puts (desk before.page old) d m more → Puts d (desk after.page new) 0 []
+    → OfAllPut d (λ start text. WrittenOrWaits result start new text) → ShowsAll (payloads_in c) after → PutsMore result k c before after old new
+more_put result k c before after more old new is put then out all = record {
+  more = more;
+  is_more = is;
+  puts = record { ready = then.ready; short = omega arith; put = λ start text h. still_put start (text ++ more) then (put.put start text h) };
+  out = λ start text h short. out start (text ++ more) (put.put start text h) short;
+  all = all;
+}
 
--- a page of few rows is short
-pub few_bytes : (most place size : ℕ) → most ≤ 1800 → place < 4294967296 → size ≤ most * place + 100 → size < 4611686018427387904
-few_bytes most place size short few h = let wide = mul-le-mul_right place short in omega (arith, wide, few, h)
+-- ---- the whole table
 
-header_put : (old new : Device) (page after : PageValue) (header text : List ℕ) → page ≡ record { out = 0; bytes = header } → Puts old new page after text → Puts old new blank after (header ++ text)
-header_put old new page after header text is put =
-    let h = subst (λ (p : PageValue). Puts old new p after text) is put in
-    record { pushed = h.pushed; gave = h.gave; kept = h.kept; out = h.out }
+-- before the first row the header was put
+pub header_put : (start : Device) (header : List ℕ) (rows : Shown) → rows ≡ none_shown header → HasPut start (desk rows.page start) header
+header_put start header rows is = subst (λ (s : Shown). HasPut start (desk s.page start) header) (sym is) (λ _. record { works = refl; pushed = []; gave = Appends-nil start.bytes; whole = refl; count = refl })
 
-header_stops : (old new : Device) (page : PageValue) (header text : List ℕ) (written : ℕ) → page ≡ record { out = 0; bytes = header } → Stops old new page text written → Stops old new blank (header ++ text) written
-header_stops old new page header text written is stop =
-    let h = subst (λ (p : PageValue). Stops old new p text written) is stop in
-    record { pushed = h.pushed; rest = h.rest; gave = h.gave; kept = h.kept; some = h.some; out = h.out }
+-- a header and rows of few places can be counted
+pub few_bytes : (header rows : List ℕ) (places : ℕ) → length header ≤ 100 → length rows ≤ 1800 * places → places < 4294967296 → length (header ++ rows) < 2 ^ 62
+few_bytes header rows places short each few = omega (arith, short, each, few, length-append header rows)
 
 module _ (k : TableKind) (c : ClosedValue) where
   -- the whole table of what was made of a feed
@@ -43,34 +56,25 @@ module _ (k : TableKind) (c : ClosedValue) where
       (is_text feed c.order.taken.ordered closed.order.clear closed.order.ordered)
 
   -- before the first row nothing is shown
-  pub first_shown : (rows : Shown) → length k.header ≤ 100 → rows ≡ none_shown k.header → ShowsFirst k.most (payloads_in c) rows
-  first_shown rows short is = subst (ShowsFirst k.most (payloads_in c)) (sym is) (record { within = omega arith; places = omega arith; size = omega (arith, short) })
+  pub first_shown : (rows : Shown) → rows ≡ none_shown k.header → ShowsFirst (payloads_in c) rows
+  first_shown rows is = subst (ShowsFirst (payloads_in c)) (sym is) (record { within = omega arith; places = omega arith })
 
-  module _ (none_rows : (version : Version) (genesis : List Row) → k.rows version genesis [] ≡ []) (old now : Device) (rows : Shown) (fresh : rows ≡ none_shown k.header) where
-    all_rows : (more : List ℕ) → IsMore k c rows.batch more → k.header ++ more ≡ whole
-    all_rows more is =
-        let from : IsMore k c 0 more = subst (λ (s : Shown). IsMore k c s.batch more) fresh is in
-        ap (λ (t : List ℕ). k.header ++ t) (sym (from ∙ ap (λ (t : List ℕ). t ++ more) (none_rows c.ledger.state.version c.order.opening)))
+  pub all_rows : ((version : Version) (genesis : List Row) → k.rows version genesis [] ≡ []) → (rows : Shown) → rows ≡ none_shown k.header → (more : List ℕ) → IsMore k c rows.batch more → k.header ++ more ≡ whole
+  all_rows none_rows rows fresh more is =
+      let from : IsMore k c 0 more = subst (λ (s : Shown). IsMore k c s.batch more) fresh is in
+      ap (λ (t : List ℕ). k.header ++ t) (sym (from.rows ∙ ap (λ (t : List ℕ). t ++ more) (none_rows c.ledger.state.version c.order.opening)))
 
-    whole_put : (after : Shown) → PutsMore k c old now rows after → Puts old now blank after.page whole
-    whole_put after (more, is, works, put) =
-        subst (λ (t : List ℕ). Puts old now blank after.page t) (all_rows more is) (header_put old now rows.page after.page k.header more (ap (λ (s : Shown). s.page) fresh) put)
+  pub all_short : IsMade c → length k.header ≤ 100 → (rows : Shown) (more : List ℕ) → IsMore k c rows.batch more → length (k.header ++ more) < 2 ^ 62
+  all_short made short rows more is = few_bytes k.header more (length (transactions_of (payloads_in c))) short (let few = is.short in omega (arith, few)) (few_transactions c made)
 
-    -- the rows stop
-    pub rows_stop : (e : WriteFault) → ((more : List ℕ) × IsMore k c rows.batch more × Fails old now × Stops old now rows.page more e.written) → StopsWriting e whole old now
-    rows_stop e (more, is, fails, stop) =
-        let s = subst (λ (t : List ℕ). Stops old now blank t e.written) (all_rows more is) (header_stops old now rows.page k.header more e.written (ap (λ (s : Shown). s.page) fresh) stop) in
-        record { fails = fails; short = part_size old now whole e.written s; out = part_out old now whole e.written s }
-
-    module _ (new : Device) (after : Shown) (puts : PutsMore k c old now rows after) where
-      -- the rest stops
-      pub end_stops : (e : WriteFault) → Fails now new × Stops now new after.page [] e.written → StopsWriting e whole old new
-      end_stops e stop =
-          let s = subst (λ (t : List ℕ). Stops old new blank t e.written) (append-nil whole) (stops_then old now new blank after.page whole [] e.written (whole_put after puts) stop.1) in
-          record { fails = stop.0 ∙ ap (λ (n : ℕ). n + 1) puts.2; short = part_size old new whole e.written s; out = part_out old new whole e.written s }
-
-      -- all is out
-      pub whole_out : (page : PageValue) → Works now new × Puts now new after.page page [] → page.bytes ≡ [] → Writes whole old new
-      whole_out page put empty =
-          let p = subst (λ (t : List ℕ). Puts old new blank page t) (append-nil whole) (puts_then old now new blank after.page page whole [] (whole_put after puts) put.1) in
-          (put.0 ∙ puts.2, all_out old new page whole p empty)
+  -- they were not put
+  module _ (none_rows : (version : Version) (genesis : List Row) → k.rows version genesis [] ≡ []) (is_text : IsTextOf k) (made : IsMade c) (short : length k.header ≤ 100) (rows after : Shown) (fresh : rows ≡ none_shown k.header) (old new : Device) (X : Type 0) where
+    pub none_written : (f : Fault) → MoreIsPut {X = X} (Err f) k c rows after old new → WritesNot (IsMadeOf c) k.text f old new
+    none_written (fault.Feed found) n = n
+    none_written (fault.Collision id) n = n
+    none_written (fault.Equivocation round author one other) n = n
+    none_written (fault.Unfinished place) n = n
+    none_written (fault.Write written) m = text_stops (IsMadeOf c) k.text _ whole (is_whole is_text) old new (record { written = written })
+        (subst (λ (t : List ℕ). StopsWriting (record { written = written }) t old new) (all_rows none_rows rows fresh m.more m.is_more)
+        (m.out old k.header (header_put old k.header rows fresh) (all_short made short rows m.more m.is_more)))
+    none_written fault.Memory n = subst (IsUntouched old) n (refl, Keeps-refl old.bytes)

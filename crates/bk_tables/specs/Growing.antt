@@ -1,9 +1,9 @@
 -- A table that is written while its order grows.
-use Rattle.std.specs.Prelude.{◌≡◌, ◌≤◌, ℕ, ◌+◌, ◌*◌, true, List, [], drop, length, take, Option, Some, None}
+use Rattle.std.specs.Prelude.{◌≡◌, ◌≤◌, ℕ, true, false, List, [], drop, length, take, Option, Some, None}
 use Rattle.bk_answer.specs.Closed.{ClosedValue}
 use Rattle.bk_base.specs.declared.genesis.Row.{Row}
 use Rattle.bk_base.specs.declared.version.Version.{Version}
-use Rattle.bk_report.specs.Pages.{PageValue, size_of}
+use Rattle.bk_report.specs.Pages.{PageValue}
 use Rattle.bk_rules.specs.Fold.{state_after}
 use Rattle.bk_rules.specs.Ledger.{Ledger, are_covered}
 use Rattle.bk_tx.specs.Batches.{transactions_of}
@@ -17,19 +17,17 @@ pub record Shown : Type 0 where
 
 -- no batch is shown, and nothing is out; the header waits
 abbrev pub none_shown : List ℕ → Shown
-none_shown header = record { page = record { out = 0; bytes = header }; batch = 0; place = 0 }
+none_shown header = record { page = record { out = 0; bytes = header; failed = false }; batch = 0; place = 0 }
 
--- a table shows the first batches of these, and its rows have no more bytes than rows can have
-pub record ShowsFirst (most : ℕ) (payloads : List (List ℕ)) (s : Shown) : Type 0 where
+-- a table shows the first batches of these
+pub record ShowsFirst (payloads : List (List ℕ)) (s : Shown) : Type 0 where
   pub within : s.batch ≤ length payloads
   pub places : s.place ≡ length (transactions_of (take s.batch payloads))
-  pub size : size_of s.page ≤ most * s.place + 100
 
 -- it shows all of them
-pub record ShowsAll (most : ℕ) (payloads : List (List ℕ)) (s : Shown) : Type 0 where
+pub record ShowsAll (payloads : List (List ℕ)) (s : Shown) : Type 0 where
   pub batches : s.batch ≡ length payloads
   pub places : s.place ≡ length (transactions_of payloads)
-  pub size : size_of s.page ≤ most * s.place + 100
 
 -- ---- rows that show accounts
 

@@ -1,31 +1,31 @@
 -- The kinds of tables, and what putting the rows of an order leaves, whichever kind it is. `rows` stands for the text of the
 -- rows: of batches, from opening accounts, in a version.
-use Rattle.std.specs.Prelude.{◌≡◌, ℕ, List, ◌++◌, take, Option}
+use Rattle.std.specs.Prelude.{◌≡◌, ◌⊎◌, ℕ, ◌+◌, ◌*◌, ◌^◌, ◌<◌, ◌≤◌, List, [], ◌++◌, length, take, Option, Result, Ok, Err}
 use Rattle.bk_answer.specs.Closed.{ClosedValue}
 use Rattle.bk_answer.specs.RunReport.{HasNoStopIn, IsOrderIn, reach_of}
 use Rattle.bk_base.specs.Feed.{FeedValue, genesis_of}
 use Rattle.bk_base.specs.declared.genesis.Row.{Row}
 use Rattle.bk_base.specs.declared.version.Version.{Version}
-use Rattle.bk_frames.specs.Device.{Device, Fails, Works}
+use Rattle.bk_frames.specs.Device.{Device, Receives, Works}
+use Rattle.bk_frames.specs.Writing.{StopsWriting}
+use Rattle.bk_frames.specs.declared.writing.WriteFault.{WriteFault}
 use Rattle.bk_order.specs.Orders.{Ordered}
-use Rattle.bk_report.specs.Pages.{Puts, Stops}
+use Rattle.bk_report.specs.Pages.{Desk, HasPut, Puts, Written, desk}
 use Rattle.bk_results.specs.declared.fault.Fault.{Fault}
 use Rattle.bk_results.specs.declared.fault.Fault.TheVariants as fault
 use Rattle.bk_results.specs.declared.status.Status.{Status}
 use Rattle.bk_rules.specs.Fold.{receipts_of}
 use Rattle.bk_tables.specs.Csv.{row_text}
-use Rattle.bk_tables.specs.Growing.{Shown, course_with}
+use Rattle.bk_tables.specs.Growing.{Shown, ShowsAll, course_with}
 use Rattle.bk_tables.specs.Payments.{payments_header, payments_text, rows_from}
 use Rattle.bk_tables.specs.Postings as table
 use Rattle.bk_tables.specs.Postings.{postings_header, postings_text}
 use Rattle.bk_tables.specs.Tables.{IsPaymentTable, IsPostingTable}
 use Rattle.bk_tx.specs.Batches.{transactions_of}
 
--- a kind of table: its header, how many bytes the rows of a place have at most, the text of its rows, and which texts are
--- that of a feed
+-- a kind of table: its header, the text of its rows, and which texts are that of a feed
 pub record TableKind : Type 1 where
   pub header : List ℕ
-  pub most : ℕ
   pub rows : Version → List Row → List (List ℕ) → List ℕ
   pub text : FeedValue → Status → List ℕ → Type 0
 
@@ -33,7 +33,6 @@ pub record TableKind : Type 1 where
 abbrev pub payments : Option (List ℕ) → TableKind
 payments ids = record {
   header = row_text payments_header;
-  most = 1800;
   rows = λ version genesis payloads.
       payments_text ids (rows_from (receipts_of version (transactions_of payloads) genesis) 0 0 payloads);
   text = IsPaymentTable ids;
@@ -43,7 +42,6 @@ payments ids = record {
 abbrev pub postings : Option (List ℕ) → TableKind
 postings ids = record {
   header = row_text postings_header;
-  most = 1200;
   rows = λ version genesis payloads. postings_text ids (table.postings (course_with version genesis payloads));
   text = IsPostingTable ids;
 }
@@ -64,20 +62,36 @@ payloads_in c = c.order.taken.ordered.payloads.list
 abbrev pub AboutAccounts : Type 1
 AboutAccounts = Version → List Row → List (List ℕ) → Type 0
 
--- this is the text of the rows of the batches from this one on
-abbrev pub IsMore : TableKind → ClosedValue → ℕ → List ℕ → Type 0
-IsMore k c batch more =
-    k.rows c.ledger.state.version c.order.opening (payloads_in c)
-    ≡ k.rows c.ledger.state.version c.order.opening (take batch (payloads_in c)) ++ more
+-- this is the text of the rows of the batches from this one on, and those of a place have at most 1800 bytes
+pub record IsMore (k : TableKind) (c : ClosedValue) (batch : ℕ) (more : List ℕ) : Type 0 where
+  pub rows : k.rows c.ledger.state.version c.order.opening (payloads_in c)
+      ≡ k.rows c.ledger.state.version c.order.opening (take batch (payloads_in c)) ++ more
+  pub short : length more + 1800 * length (transactions_of (take batch (payloads_in c)))
+      ≤ 1800 * length (transactions_of (payloads_in c))
 
--- they were put
-abbrev pub PutsMore : TableKind → ClosedValue → Device → Device → Shown → Shown → Type 0
-PutsMore k c old new before after =
-    (more : List ℕ) × IsMore k c before.batch more × Works old new × Puts old new before.page after.page more
+-- ---- what goes out
 
--- they were not put: a call of the sink failed, or memory ran out before the first of them
-abbrev pub PutsNoMore : TableKind → ClosedValue → Device → Device → Shown → Fault → Type 0
-PutsNoMore k c old new before (fault.Write written) =
-    (more : List ℕ) × IsMore k c before.batch more × Fails old new × Stops old new before.page more written
-PutsNoMore k c old new before fault.Memory = old ≡ new
-PutsNoMore k c old new before other = ⊥
+-- this is said of whatever text was put since whichever moment, if it can be counted
+abbrev pub OfAllPut : Desk → (Device → List ℕ → Type 0) → Type 0
+OfAllPut d says = (start : Device) (text : List ℕ) → HasPut start d text → length text < 2 ^ 62 → says start text
+
+-- what came of writing a text whose front may wait: all is out, or nothing
+abbrev pub WrittenOrWaits : {X : Type 0} → Result X WriteFault → Device → Device → List ℕ → Type 0
+WrittenOrWaits (Ok x) old new text = Works old new × (Receives old new [] ⊎ Receives old new text)
+WrittenOrWaits (Err e) old new text = StopsWriting e text old new
+
+-- the rows of the batches that a table did not show were put after what was put before, and this came of letting it go out
+pub record PutsMore {X : Type 0} (result : Result X WriteFault) (k : TableKind) (c : ClosedValue) (before after : Shown) (old new : Device) : Type 0 where
+  pub more : List ℕ
+  pub is_more : IsMore k c before.batch more
+  pub puts : Puts (desk before.page old) (desk after.page new) (length more) more
+  pub out : (start : Device) (text : List ℕ) → HasPut start (desk before.page old) text → length (text ++ more) < 2 ^ 62
+      → WrittenOrWaits result start new (text ++ more)
+  pub all : ShowsAll (payloads_in c) after
+
+-- the same, or memory ran out before the first of them
+abbrev pub MoreIsPut : {X : Type 0} → Result X Fault → TableKind → ClosedValue → Shown → Shown → Device → Device → Type 0
+MoreIsPut {X} (Ok x) = PutsMore {X = X} (Ok x)
+MoreIsPut {X} (Err (fault.Write written)) = PutsMore {X = X} (Err (record { written = written }))
+MoreIsPut (Err fault.Memory) = λ k c before after old new. old ≡ new
+MoreIsPut (Err other) = λ k c before after old new. ⊥

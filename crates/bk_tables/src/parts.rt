@@ -1,9 +1,8 @@
 //! The rows of what a place does to each account that plays a part in it, written.
 
-ghost use Rattle.std.specs.Prelude.{◌≡◌, ℕ, ◌+◌, ◌*◌, ◌≤◌, ◌<◌, ◌^◌, ◌∷◌, [], Some, None, length, map, true, OnOk, IfSome};
+ghost use Rattle.std.specs.Prelude.{◌≡◌, ◌*◌, ◌≤◌, ◌∷◌, [], Some, None, length, map, true, IfSome};
 ghost use Rattle.std.specs.Option.{option_copied};
-ghost use Rattle.bk_frames.specs.Device.{CanBeUsed};
-ghost use Rattle.bk_report.specs.Pages.{Written, size_of};
+ghost use Rattle.bk_report.specs.Pages.{IsReady, Puts, desk};
 ghost use Rattle.bk_rules.specs.Fold.{HasRoom};
 ghost use Rattle.bk_rules.specs.Ledger.{after_of, is_covered};
 ghost use Rattle.bk_tx.specs.Spelling.{IsTransaction};
@@ -14,7 +13,7 @@ use crate::accounts::Accounts;
 use crate::posting::{Posting, make_row};
 use crate::rows::paid_by;
 use crate::sheet::Sheet;
-use bk_frames::{Sink, WriteFault};
+use bk_frames::Sink;
 use bk_rules::{Receipt, State};
 use bk_tx::{Body, Payment, Tx};
 use bk_views::{Entry, Role};
@@ -69,20 +68,17 @@ fn put_part<K: Sink>(
     state: &State,
     spot: Spot,
     played: Played,
-) -> Result<(), WriteFault>
-    requires sound { CanBeUsed (K.state sink.old) }
-    requires size { size_of sheet.old.page < 2 ^ 61 }
-    ensures written { Written result (K.state sink.old) (K.state sink.new)
-        sheet.old.page sheet.new.page
-        (postings_text accounts.now (row_by spot state.now.rows played ∷ [])) }
-    ensures size { OnOk result (size_of sheet.new.page ≤ size_of sheet.old.page + 150) }
+)
+    requires { IsReady (desk sheet.old.page (K.state sink.old)) }
+    ensures { Puts (desk sheet.old.page (K.state sink.old)) (desk sheet.new.page (K.state sink.new))
+        150 (postings_text accounts.now (row_by spot state.now.rows played ∷ [])) }
 {
     let row = row_of(state, spot, played);
     if !picks(accounts, &row) {
-        return Ok(());
+        return;
     }
     make_row(&mut sheet.line, &row);
-    sheet.page.put_text(sink, sheet.line.as_slice())
+    sheet.page.put_text(sink, sheet.line.as_slice());
 }
 
 // A receiver that is to get this much, or all that a sweep moved.
@@ -104,20 +100,17 @@ fn put_split<K: Sink>(
     state: &State,
     spot: Spot,
     payments: &[Payment],
-) -> Result<(), WriteFault>
-    requires sound { CanBeUsed (K.state sink.old) }
+)
+    requires ready { IsReady (desk sheet.old.page (K.state sink.old)) }
     requires few { length payments.now ≤ 6 }
-    requires size { size_of sheet.old.page < 2 ^ 60 }
-    ensures written { Written result (K.state sink.old) (K.state sink.new)
-        sheet.old.page sheet.new.page (postings_text accounts.now
+    ensures { Puts (desk sheet.old.page (K.state sink.old)) (desk sheet.new.page (K.state sink.new))
+        900 (postings_text accounts.now
         (map (row_by spot state.now.rows) (map (played_split spot.receipt) payments.now))) }
-    ensures size { OnOk result (size_of sheet.new.page ≤ size_of sheet.old.page + 900) }
 {
     for payment in payments {
         let played = played_in(spot.receipt, payment.to, Some(payment.amount));
-        put_part(sink, sheet, accounts, state, spot, played)?;
+        put_part(sink, sheet, accounts, state, spot, played);
     }
-    Ok(())
 }
 
 // Puts the rows of the receivers.
@@ -128,13 +121,11 @@ fn put_receivers<K: Sink>(
     state: &State,
     spot: Spot,
     body: &Body,
-) -> Result<(), WriteFault>
-    requires sound { CanBeUsed (K.state sink.old) }
-    requires size { size_of sheet.old.page < 2 ^ 60 }
-    ensures written { Written result (K.state sink.old) (K.state sink.new)
-        sheet.old.page sheet.new.page (postings_text accounts.now
+)
+    requires { IsReady (desk sheet.old.page (K.state sink.old)) }
+    ensures { Puts (desk sheet.old.page (K.state sink.old)) (desk sheet.new.page (K.state sink.new))
+        900 (postings_text accounts.now
         (map (row_by spot state.now.rows) (receivers_by spot.receipt body.now))) }
-    ensures size { OnOk result (size_of sheet.new.page ≤ size_of sheet.old.page + 900) }
 {
     let played = match body {
         Body::Pay { to, amount } | Body::PayIf { to, amount, .. } => {
@@ -145,7 +136,7 @@ fn put_receivers<K: Sink>(
             return put_split(sink, sheet, accounts, state, spot, payments.as_slice());
         }
     };
-    put_part(sink, sheet, accounts, state, spot, played)
+    put_part(sink, sheet, accounts, state, spot, played);
 }
 
 // The guard of a body, if it is neither the sender nor the receiver.
@@ -175,17 +166,14 @@ fn put_guard<K: Sink>(
     state: &State,
     spot: Spot,
     guard: Option<Played>,
-) -> Result<(), WriteFault>
-    requires sound { CanBeUsed (K.state sink.old) }
-    requires size { size_of sheet.old.page < 2 ^ 61 }
-    ensures written { Written result (K.state sink.old) (K.state sink.new)
-        sheet.old.page sheet.new.page (postings_text accounts.now
+)
+    requires { IsReady (desk sheet.old.page (K.state sink.old)) }
+    ensures { Puts (desk sheet.old.page (K.state sink.old)) (desk sheet.new.page (K.state sink.new))
+        150 (postings_text accounts.now
         (map (row_by spot state.now.rows) (one_or_none guard))) }
-    ensures size { OnOk result (size_of sheet.new.page ≤ size_of sheet.old.page + 150) }
 {
-    match guard {
-        Some(played) => put_part(sink, sheet, accounts, state, spot, played),
-        None => Ok(()),
+    if let Some(played) = guard {
+        put_part(sink, sheet, accounts, state, spot, played);
     }
 }
 
@@ -197,13 +185,11 @@ fn put_tx<K: Sink>(
     state: &State,
     spot: Spot,
     tx: &Tx,
-) -> Result<(), WriteFault>
-    requires sound { CanBeUsed (K.state sink.old) }
-    requires size { size_of sheet.old.page < 2 ^ 59 }
-    ensures written { Written result (K.state sink.old) (K.state sink.new)
-        sheet.old.page sheet.new.page (postings_text accounts.now
+)
+    requires { IsReady (desk sheet.old.page (K.state sink.old)) }
+    ensures { Puts (desk sheet.old.page (K.state sink.old)) (desk sheet.new.page (K.state sink.new))
+        1200 (postings_text accounts.now
         (map (row_by spot state.now.rows) (played_by spot.receipt tx.now))) }
-    ensures size { OnOk result (size_of sheet.new.page ≤ size_of sheet.old.page + 1200) }
 {
     let played = Played {
         account: tx.from(),
@@ -211,10 +197,9 @@ fn put_tx<K: Sink>(
         amount: spot.receipt.moved,
     };
     let guard = lone_guard(tx.from(), tx.body());
-    put_part(sink, sheet, accounts, state, spot, played)?;
-    put_receivers(sink, sheet, accounts, state, spot, tx.body())?;
-    put_guard(sink, sheet, accounts, state, spot, guard)?;
-    Ok(())
+    put_part(sink, sheet, accounts, state, spot, played);
+    put_receivers(sink, sheet, accounts, state, spot, tx.body());
+    put_guard(sink, sheet, accounts, state, spot, guard);
 }
 
 /// Executes the transaction of a place, and puts the rows of it that are shown.
@@ -225,21 +210,18 @@ pub(crate) fn put_parts<K: Sink>(
     state: &mut State,
     place: usize,
     tx: Option<&Tx>,
-) -> Result<(), WriteFault>
-    requires sound { CanBeUsed (K.state sink.old) }
+)
+    requires ready { IsReady (desk sheet.old.page (K.state sink.old)) }
     requires transaction { IfSome (option_copied tx) IsTransaction }
     requires covers { is_covered state.old.version state.old.slots (option_copied tx) ≡ true }
     requires room { HasRoom state.old.version 1 state.old.rows }
-    requires size { size_of sheet.old.page < 2 ^ 59 }
-    ensures written { Written result (K.state sink.old) (K.state sink.new)
-        sheet.old.page sheet.new.page (postings_text accounts.now
+    ensures put { Puts (desk sheet.old.page (K.state sink.old)) (desk sheet.new.page (K.state sink.new))
+        1200 (postings_text accounts.now
         (rows_of place state.old.version state.old.rows (option_copied tx.entry))) }
     ensures after { state.new ≡ after_of state.old (option_copied tx.entry) }
-    ensures size { OnOk result (size_of sheet.new.page ≤ size_of sheet.old.page + 1200) }
 {
     let receipt = state.apply(tx);
-    match tx {
-        Some(tx) => put_tx(sink, sheet, accounts, state, Spot { place, receipt }, tx),
-        None => Ok(()),
+    if let Some(tx) = tx {
+        put_tx(sink, sheet, accounts, state, Spot { place, receipt }, tx);
     }
 }

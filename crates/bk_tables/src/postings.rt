@@ -1,17 +1,14 @@
 //! What the places of an order do to each account, as what a feed answers.
 
-ghost use Rattle.std.specs.Prelude.{◌≡◌, ◌⊎◌, ℕ, ◌<◌, ◌^◌, [], List, true, false, Some, drop, length, map, OnOk, IfErr, IfOk};
+ghost use Rattle.std.specs.Prelude.{◌≡◌, ℕ, List, Some, OnOk, IfOk};
 ghost use Rattle.bk_answer.specs.Answers.{IsMadeOf};
 ghost use Rattle.bk_answer.specs.Values.{closed_value};
 ghost use Rattle.bk_base.specs.Feed.{FeedValue};
-ghost use Rattle.bk_frames.specs.Device.{CanBeUsed};
-ghost use Rattle.bk_report.specs.Pages.{Written};
+ghost use Rattle.bk_report.specs.Pages.{IsReady, desk};
 ghost use Rattle.bk_rules.specs.Fold.{HasRoom};
 ghost use Rattle.bk_rules.specs.Rows.{IsLedger};
-ghost use Rattle.bk_tx.specs.Batches.{transactions_of};
-ghost use Rattle.bk_tables.specs.Growing.{AreAfter, HasWalked, IsReadyFor, ShowsAll, ShowsFirst, course_in};
-ghost use Rattle.bk_tables.specs.Kinds.{postings};
-ghost use Rattle.bk_tables.specs.Postings.{postings_from, postings_text};
+ghost use Rattle.bk_tables.specs.Growing.{AreAfter, HasWalked, IsReadyFor, ShowsFirst};
+ghost use Rattle.bk_tables.specs.Kinds.{PutsMore, payloads_in, postings};
 ghost use Rattle.bk_tables.specs.Tables.{IsPostingTable};
 ghost use Rattle.bk_tables.specs.private.KindLaws.{no_postings, postings_short, postings_table};
 
@@ -95,21 +92,13 @@ impl PostingRows {
         accounts: &Option<Accounts>,
         closed: &Closed<'_>,
     ) -> Result<(), WriteFault>
-        requires sound { CanBeUsed (K.state sink.old) }
+        requires page { IsReady (desk self.old.shown.page (K.state sink.old)) }
         requires closed { (feed : FeedValue) × IsMadeOf (closed_value closed.now) feed }
-        requires shown { ShowsFirst 1200 closed.now.order.intake.now.ordered.payloads.list
-            self.old.shown }
+        requires shown { ShowsFirst (payloads_in (closed_value closed.now)) self.old.shown }
         requires ready { IsReadyFor (closed_value closed.now) self.old }
-        ensures written { Written result (K.state sink.old) (K.state sink.new)
-            self.old.shown.page self.new.shown.page (postings_text accounts.now
-            (postings_from (course_in (closed_value closed.now)) self.old.shown.place
-            (transactions_of (drop self.old.shown.batch
-            closed.now.order.intake.now.ordered.payloads.list)))) }
-        ensures shown { OnOk result (ShowsAll 1200
-            closed.now.order.intake.now.ordered.payloads.list self.new.shown) }
-        ensures walked { OnOk result (HasWalked (closed_value closed.now) self.new) }
-        ensures out { OnOk result
-            ((self.new.shown.page.bytes ≡ []) ⊎ (self.new.shown.page.out ≡ 0)) }
+        ensures put { PutsMore result (postings accounts.now) (closed_value closed.now)
+            self.old.shown self.new.shown (K.state sink.old) (K.state sink.new) }
+        ensures walked { HasWalked (closed_value closed.now) self.new }
     {
         let intake = closed.order.intake;
         let counts = closed.ledger.counts();
@@ -120,10 +109,10 @@ impl PostingRows {
             place,
         } = self;
         let Some(state) = state else { unreachable!() };
-        put_batches(sink, sheet, accounts, state, intake, counts, *batch, *place)?;
+        put_batches(sink, sheet, accounts, state, intake, counts, *batch, *place);
         *batch = counts.len();
         *place = closed.ledger.receipts().len();
-        sheet.page.flush_rows(sink)
+        sheet.page.end_rows(sink)
     }
 }
 
@@ -156,7 +145,7 @@ impl TableRows for PostingRows {
     }
 
     fn put_end<K: Sink>(&mut self, sink: &mut K) -> Result<(), WriteFault> {
-        self.sheet.page.flush(sink)
+        self.sheet.page.end(sink)
     }
 
     ghost no_rows = { no_postings };

@@ -1,8 +1,7 @@
 //! The rows of a place, written.
 
-ghost use Rattle.std.specs.Prelude.{◌≡◌, ℕ, ◌+◌, ◌*◌, ◌≤◌, ◌<◌, ◌^◌, ◌∷◌, [], Some, None, length, map, OnOk, option_map, unwrap_or, false};
-ghost use Rattle.bk_frames.specs.Device.{CanBeUsed};
-ghost use Rattle.bk_report.specs.Pages.{Written, size_of};
+ghost use Rattle.std.specs.Prelude.{◌≡◌, ◌*◌, ◌≤◌, ◌∷◌, [], Some, None, length, map, option_map, unwrap_or, false};
+ghost use Rattle.bk_report.specs.Pages.{IsReady, Puts, desk};
 ghost use Rattle.bk_tables.specs.Payments.{asked_by, is_among, names_one, paid_by, payments_text, picks_payment, row_of, rows_at, rows_of};
 ghost use Rattle.bk_tables.specs.private.Asking.{split_of};
 ghost use Rattle.bk_tx.specs.declared.body.Body.TheVariants.{Pay, PayIf, Sweep};
@@ -11,7 +10,7 @@ ghost use Rattle.std.specs.Option.{option_copied};
 use crate::accounts::Accounts;
 use crate::payment::{Asked, At, Kind, PaymentRow, make_row};
 use crate::sheet::Sheet;
-use bk_frames::{Sink, WriteFault};
+use bk_frames::Sink;
 use bk_rules::{Receipt, Status};
 use bk_tx::{Body, Payment, Tx};
 
@@ -48,23 +47,16 @@ fn picks(accounts: &Option<Accounts>, row: &PaymentRow) -> bool
 }
 
 // Puts a row, if it is shown.
-fn put_row<K: Sink>(
-    sink: &mut K,
-    sheet: &mut Sheet,
-    accounts: &Option<Accounts>,
-    row: PaymentRow,
-) -> Result<(), WriteFault>
-    requires sound { CanBeUsed (K.state sink.old) }
-    requires size { size_of sheet.old.page < 2 ^ 61 }
-    ensures written { Written result (K.state sink.old) (K.state sink.new)
-        sheet.old.page sheet.new.page (payments_text accounts.now (row ∷ [])) }
-    ensures size { OnOk result (size_of sheet.new.page ≤ size_of sheet.old.page + 300) }
+fn put_row<K: Sink>(sink: &mut K, sheet: &mut Sheet, accounts: &Option<Accounts>, row: PaymentRow)
+    requires { IsReady (desk sheet.old.page (K.state sink.old)) }
+    ensures { Puts (desk sheet.old.page (K.state sink.old)) (desk sheet.new.page (K.state sink.new))
+        300 (payments_text accounts.now (row ∷ [])) }
 {
     if !picks(accounts, &row) {
-        return Ok(());
+        return;
     }
     make_row(&mut sheet.line, &row);
-    sheet.page.put_text(sink, sheet.line.as_slice())
+    sheet.page.put_text(sink, sheet.line.as_slice());
 }
 
 /// What a payment moved.
@@ -122,20 +114,16 @@ fn put_split<K: Sink>(
     from: u64,
     seq: u64,
     payments: &[Payment],
-) -> Result<(), WriteFault>
-    requires sound { CanBeUsed (K.state sink.old) }
+)
+    requires ready { IsReady (desk sheet.old.page (K.state sink.old)) }
     requires few { length payments.now ≤ 6 }
-    requires size { size_of sheet.old.page < 2 ^ 60 }
-    ensures written { Written result (K.state sink.old) (K.state sink.new)
-        sheet.old.page sheet.new.page
-        (payments_text accounts.now (rows_of at 0 (map (split_of from seq) payments.now))) }
-    ensures size { OnOk result (size_of sheet.new.page ≤ size_of sheet.old.page + 1800) }
+    ensures { Puts (desk sheet.old.page (K.state sink.old)) (desk sheet.new.page (K.state sink.new))
+        1800 (payments_text accounts.now (rows_of at 0 (map (split_of from seq) payments.now))) }
 {
     for (item, payment) in payments.iter().enumerate() {
         let row = row_of(at, item as u8, split_of(from, seq, *payment));
-        put_row(sink, sheet, accounts, row)?;
+        put_row(sink, sheet, accounts, row);
     }
-    Ok(())
 }
 
 // What a payment of a `pay` asks for.
@@ -187,18 +175,10 @@ fn sweep_of(from: u64, seq: u64, to: u64, keep: u64) -> Asked
 }
 
 // Puts the rows of a transaction.
-fn put_tx<K: Sink>(
-    sink: &mut K,
-    sheet: &mut Sheet,
-    accounts: &Option<Accounts>,
-    at: At,
-    tx: &Tx,
-) -> Result<(), WriteFault>
-    requires sound { CanBeUsed (K.state sink.old) }
-    requires size { size_of sheet.old.page < 2 ^ 60 }
-    ensures written { Written result (K.state sink.old) (K.state sink.new)
-        sheet.old.page sheet.new.page (payments_text accounts.now (rows_at at (Some tx.now))) }
-    ensures size { OnOk result (size_of sheet.new.page ≤ size_of sheet.old.page + 1800) }
+fn put_tx<K: Sink>(sink: &mut K, sheet: &mut Sheet, accounts: &Option<Accounts>, at: At, tx: &Tx)
+    requires { IsReady (desk sheet.old.page (K.state sink.old)) }
+    ensures { Puts (desk sheet.old.page (K.state sink.old)) (desk sheet.new.page (K.state sink.new))
+        1800 (payments_text accounts.now (rows_at at (Some tx.now))) }
 {
     let (from, seq) = (tx.from(), tx.seq());
     let asked = match tx.body() {
@@ -215,7 +195,7 @@ fn put_tx<K: Sink>(
             return put_split(sink, sheet, accounts, at, from, seq, payments);
         }
     };
-    put_row(sink, sheet, accounts, row_of(at, 0, asked))
+    put_row(sink, sheet, accounts, row_of(at, 0, asked));
 }
 
 // The row of a malformed transaction.
@@ -239,13 +219,10 @@ pub(crate) fn put_place<K: Sink>(
     accounts: &Option<Accounts>,
     at: At,
     tx: Option<&Tx>,
-) -> Result<(), WriteFault>
-    requires sound { CanBeUsed (K.state sink.old) }
-    requires size { size_of sheet.old.page < 2 ^ 60 }
-    ensures written { Written result (K.state sink.old) (K.state sink.new)
-        sheet.old.page sheet.new.page
-        (payments_text accounts.now (rows_at at (option_copied tx.entry))) }
-    ensures size { OnOk result (size_of sheet.new.page ≤ size_of sheet.old.page + 1800) }
+)
+    requires { IsReady (desk sheet.old.page (K.state sink.old)) }
+    ensures { Puts (desk sheet.old.page (K.state sink.old)) (desk sheet.new.page (K.state sink.new))
+        1800 (payments_text accounts.now (rows_at at (option_copied tx.entry))) }
 {
     match tx {
         Some(tx) => put_tx(sink, sheet, accounts, at, tx),

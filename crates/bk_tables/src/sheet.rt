@@ -1,8 +1,8 @@
 //! Where rows are written: a page, and the row that is made.
 
-ghost use Rattle.std.specs.Prelude.{◌≡◌, ◌⊎◌, ◌+◌, ◌^◌, ◌<◌, [], length, IfOk, OnOk};
-ghost use Rattle.bk_frames.specs.Device.{CanBeUsed};
-ghost use Rattle.bk_report.specs.Pages.{Written, blank, size_of};
+ghost use Rattle.std.specs.Prelude.{◌≡◌, ◌<◌, [], length, IfOk};
+ghost use Rattle.bk_report.specs.Pages.{IsReady, Puts, Written, blank, desk};
+ghost use Rattle.bk_tables.specs.Kinds.{OfAllPut, WrittenOrWaits};
 ghost use Rattle.bk_tables.specs.private.Sheets.{with_front};
 
 use crate::line::Line;
@@ -32,21 +32,18 @@ impl Model for Leaf {
 }
 
 // Puts the text in front of a page, if there is one.
-fn put_front<K: Sink>(sink: &mut K, page: &mut Page, front: &mut Vec<u8>) -> Result<(), WriteFault>
-    requires sound { CanBeUsed (K.state sink.old) }
+fn put_front<K: Sink>(sink: &mut K, page: &mut Page, front: &mut Vec<u8>)
+    requires ready { IsReady (desk page.old (K.state sink.old)) }
     requires fresh { 0 < length front.old.items → page.old ≡ blank }
-    requires size { size_of (with_front front.old.items page.old) < 2 ^ 62 }
     ensures none { front.new.items ≡ [] }
-    ensures written { Written result (K.state sink.old) (K.state sink.new)
-        (with_front front.old.items page.old) page.new [] }
-    ensures size { OnOk result (size_of page.new ≡ size_of (with_front front.old.items page.old)) }
+    ensures put { Puts (desk (with_front front.old.items page.old) (K.state sink.old))
+        (desk page.new (K.state sink.new)) 0 [] }
 {
     if front.is_empty() {
-        return Ok(());
+        return;
     }
-    let put = page.put_text(sink, front.as_slice());
+    page.put_text(sink, front.as_slice());
     front.clear();
-    put
 }
 
 impl Leaf {
@@ -60,41 +57,37 @@ impl Leaf {
     }
 
     /// Puts a text, after the one in front.
-    pub fn put_text<K: Sink>(&mut self, sink: &mut K, text: &[u8]) -> Result<(), WriteFault>
-        requires sound { CanBeUsed (K.state sink.old) }
-        requires size { size_of self.old + length text.now < 2 ^ 62 }
-        ensures written { Written result (K.state sink.old) (K.state sink.new) self.old self.new
-            text.now }
-        ensures size { OnOk result (size_of self.new ≡ size_of self.old + length text.now) }
+    pub fn put_text<K: Sink>(&mut self, sink: &mut K, text: &[u8])
+        requires { IsReady (desk self.old (K.state sink.old)) }
+        ensures { Puts (desk self.old (K.state sink.old)) (desk self.new (K.state sink.new))
+            (length text.now) text.now }
     {
-        put_front(sink, &mut self.page, &mut self.front)?;
-        self.page.put_text(sink, text)
+        put_front(sink, &mut self.page, &mut self.front);
+        self.page.put_text(sink, text);
     }
 
-    /// Lets all that it holds go out, the text in front too.
-    pub fn flush<K: Sink>(&mut self, sink: &mut K) -> Result<(), WriteFault>
-        requires sound { CanBeUsed (K.state sink.old) }
-        requires size { size_of self.old < 2 ^ 62 }
-        ensures written { Written result (K.state sink.old) (K.state sink.new) self.old self.new
+    /// Lets all that it holds go out, the text in front too, and says whether the sink ever failed.
+    pub fn end<K: Sink>(&mut self, sink: &mut K) -> Result<(), WriteFault>
+        requires { IsReady (desk self.old (K.state sink.old)) }
+        ensures out { OfAllPut (desk self.old (K.state sink.old))
+            (λ start text. Written result start (K.state sink.new) text) }
+        ensures more { Puts (desk self.old (K.state sink.old)) (desk self.new (K.state sink.new)) 0
             [] }
-        ensures empty { OnOk result (self.new.bytes ≡ []) }
-        ensures size { OnOk result (size_of self.new ≡ size_of self.old) }
     {
-        put_front(sink, &mut self.page, &mut self.front)?;
-        self.page.flush(sink)
+        put_front(sink, &mut self.page, &mut self.front);
+        self.page.end(sink)
     }
 
     /// The same where a text was put after the one in front, and nothing where there was none.
-    pub fn flush_rows<K: Sink>(&mut self, sink: &mut K) -> Result<(), WriteFault>
-        requires sound { CanBeUsed (K.state sink.old) }
-        requires size { size_of self.old < 2 ^ 62 }
-        ensures written { Written result (K.state sink.old) (K.state sink.new) self.old self.new
+    pub fn end_rows<K: Sink>(&mut self, sink: &mut K) -> Result<(), WriteFault>
+        requires { IsReady (desk self.old (K.state sink.old)) }
+        ensures out { OfAllPut (desk self.old (K.state sink.old))
+            (λ start text. WrittenOrWaits result start (K.state sink.new) text) }
+        ensures more { Puts (desk self.old (K.state sink.old)) (desk self.new (K.state sink.new)) 0
             [] }
-        ensures out { OnOk result ((self.new.bytes ≡ []) ⊎ (self.new.out ≡ 0)) }
-        ensures size { OnOk result (size_of self.new ≡ size_of self.old) }
     {
         if self.front.is_empty() {
-            return self.flush(sink);
+            return self.end(sink);
         }
         Ok(())
     }

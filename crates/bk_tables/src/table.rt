@@ -1,15 +1,15 @@
 //! A table, whichever it is: its rows are written while its order grows, or all at once.
 
-ghost use Rattle.std.specs.Prelude.{◌≡◌, ◌⊎◌, ◌<◌, ◌≤◌, ◌^◌, ℕ, List, [], length, take, Option, IfOk, IfErr, OnOk};
+ghost use Rattle.std.specs.Prelude.{◌≡◌, ◌≤◌, ℕ, List, [], length, take, Option, IfOk, IfErr, OnOk};
 ghost use Rattle.bk_answer.specs.Answers.{IsMadeOf, WritesAnswer, WritesNot};
 ghost use Rattle.bk_answer.specs.Values.{closed_value};
 ghost use Rattle.bk_base.specs.Feed.{FeedValue};
 ghost use Rattle.bk_base.specs.declared.genesis.Row.{Row};
 ghost use Rattle.bk_base.specs.declared.version.Version.{Version};
 ghost use Rattle.bk_frames.specs.Device.{CanBeUsed};
-ghost use Rattle.bk_report.specs.Pages.{Written, size_of};
-ghost use Rattle.bk_tables.specs.Growing.{Shown, ShowsAll, ShowsFirst, none_shown};
-ghost use Rattle.bk_tables.specs.Kinds.{AboutAccounts, IsTextOf, PutsMore, PutsNoMore, TableKind, payloads_in};
+ghost use Rattle.bk_report.specs.Pages.{IsReady, Written, desk};
+ghost use Rattle.bk_tables.specs.Growing.{Shown, ShowsFirst, none_shown};
+ghost use Rattle.bk_tables.specs.Kinds.{AboutAccounts, IsTextOf, MoreIsPut, OfAllPut, TableKind, payloads_in};
 
 use crate::accounts::Accounts;
 use bk_answer::Closed;
@@ -35,7 +35,7 @@ pub trait TableRows {
         ensures accounts { IfOk result (λ r. (version : Version) (genesis : List Row)
             → holds r version genesis []) };
 
-    /// Writes the rows of the batches that are not shown yet.
+    /// Writes the rows of the batches that are not shown yet. After an error the table is not to be used again.
     fn put_more<K: Sink>(
         &mut self,
         alloc: Global,
@@ -43,39 +43,29 @@ pub trait TableRows {
         accounts: &Option<Accounts>,
         closed: &Closed<'_>,
     ) -> Result<(), Fault>
-        requires sound { CanBeUsed (K.state sink.old) }
+        requires ready { IsReady (desk (shown self.old).page (K.state sink.old)) }
         requires closed { (feed : FeedValue) × IsMadeOf (closed_value closed.now) feed }
-        requires first { ShowsFirst (kind accounts.now).most (payloads_in (closed_value closed.now))
-            (shown self.old) }
+        requires first { ShowsFirst (payloads_in (closed_value closed.now)) (shown self.old) }
         requires before { holds self.old (closed_value closed.now).ledger.state.version
             (closed_value closed.now).order.opening
             (take (shown self.old).batch (payloads_in (closed_value closed.now))) }
-        ensures put { OnOk result (PutsMore (kind accounts.now) (closed_value closed.now)
-            (K.state sink.old) (K.state sink.new) (shown self.old) (shown self.new)) }
-        ensures fault { IfErr result (PutsNoMore (kind accounts.now) (closed_value closed.now)
-            (K.state sink.old) (K.state sink.new) (shown self.old)) }
-        ensures all { OnOk result (ShowsAll (kind accounts.now).most
-            (payloads_in (closed_value closed.now)) (shown self.new)) }
+        ensures put { MoreIsPut result (kind accounts.now) (closed_value closed.now)
+            (shown self.old) (shown self.new) (K.state sink.old) (K.state sink.new) }
         ensures after { OnOk result (holds self.new (closed_value closed.now).ledger.state.version
-            (closed_value closed.now).order.opening (payloads_in (closed_value closed.now))) }
-        ensures out { OnOk result
-            (((shown self.new).page.bytes ≡ []) ⊎ ((shown self.new).page.out ≡ 0)) };
+            (closed_value closed.now).order.opening (payloads_in (closed_value closed.now))) };
 
-    /// Writes the header, if it is not out.
+    /// Lets all go out that was put, and the header, if it is not out.
     fn put_end<K: Sink>(&mut self, sink: &mut K) -> Result<(), WriteFault>
-        requires sound { CanBeUsed (K.state sink.old) }
-        requires size { size_of (shown self.old).page < 2 ^ 62 }
-        ensures written { Written result (K.state sink.old) (K.state sink.new)
-            (shown self.old).page (shown self.new).page [] }
-        ensures empty { OnOk result ((shown self.new).page.bytes ≡ []) };
+        requires { IsReady (desk (shown self.old).page (K.state sink.old)) }
+        ensures { OfAllPut (desk (shown self.old).page (K.state sink.old))
+            (λ start text. Written result start (K.state sink.new) text) };
 
     // No batch has no row.
     ghost no_rows: { (ids : Option (List ℕ)) (version : Version) (genesis : List Row)
         → (kind ids).rows version genesis [] ≡ [] };
 
-    // The header and the rows of a place are short.
-    ghost short: { (ids : Option (List ℕ))
-        → (length (kind ids).header ≤ 100) × ((kind ids).most ≤ 1800) };
+    // The header is short.
+    ghost short: { (ids : Option (List ℕ)) → length (kind ids).header ≤ 100 };
 
     // Header and rows are the table.
     ghost is_text: { (ids : Option (List ℕ)) → IsTextOf (kind ids) };

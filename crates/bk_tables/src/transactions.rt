@@ -1,17 +1,10 @@
 //! The payments of an order, as what a feed answers.
 
-ghost use Rattle.std.specs.Prelude.{◌≡◌, ◌⊎◌, ℕ, ◌+◌, ◌*◌, ◌≤◌, ◌<◌, ◌^◌, [], List, Some, IsSome, drop, length, map, take, false, slice_get, OnOk, IfErr, IfOk, option_map};
-ghost use Rattle.bk_answer.specs.Answers.{IsMadeOf};
-ghost use Rattle.bk_answer.specs.Values.{closed_value};
-ghost use Rattle.bk_base.specs.Feed.{FeedValue};
-ghost use Rattle.bk_frames.specs.Device.{CanBeUsed};
-ghost use Rattle.bk_report.specs.Pages.{Written, size_of};
-ghost use Rattle.bk_rules.specs.Fold.{receipts_of};
+ghost use Rattle.std.specs.Prelude.{◌≡◌, ◌+◌, ◌-◌, ◌*◌, ◌≤◌, ◌<◌, ◌^◌, IsSome, drop, length, map, take, false};
+ghost use Rattle.bk_report.specs.Pages.{IsReady, Puts, desk};
 ghost use Rattle.bk_tx.specs.Batches.{count_in, transactions_in, transactions_of};
-ghost use Rattle.bk_tx.specs.Reading.{text_at};
-ghost use Rattle.bk_tables.specs.Growing.{ShowsAll, ShowsFirst};
 ghost use Rattle.bk_tables.specs.Kinds.{payments};
-ghost use Rattle.bk_tables.specs.Payments.{payments_text, receipt_at, rows_from, rows_in};
+ghost use Rattle.bk_tables.specs.Payments.{payments_text, rows_from, rows_in};
 ghost use Rattle.bk_tables.specs.Tables.{IsPaymentTable};
 ghost use Rattle.bk_tables.specs.private.KindLaws.{no_payments, payments_short, payments_table};
 
@@ -45,34 +38,30 @@ fn put_batch<K: Sink>(
     batch: u32,
     place: usize,
     receipts: &[PackedReceipt],
-) -> Result<(), WriteFault>
-    requires sound { CanBeUsed (K.state sink.old) }
+)
+    requires ready { IsReady (desk sheet.old.page (K.state sink.old)) }
     requires grammar { IsSome (count_in payload.now) }
     requires inside { place + length (transactions_in payload.now) ≤ length receipts.now }
     requires few { length receipts.now < 2 ^ 32 }
-    requires size { size_of sheet.old.page ≤ 1800 * place + 100 }
-    ensures written { Written result (K.state sink.old) (K.state sink.new)
-        sheet.old.page sheet.new.page
-        (payments_text accounts.now (rows_in receipts.now batch place (transactions_in payload.now))) }
-    ensures size { OnOk result (size_of sheet.new.page
-        ≤ 1800 * (place + length (transactions_in payload.now)) + 100) }
+    ensures { Puts (desk sheet.old.page (K.state sink.old)) (desk sheet.new.page (K.state sink.new))
+        (1800 * length (transactions_in payload.now)) (payments_text accounts.now
+        (rows_in receipts.now batch place (transactions_in payload.now))) }
 {
     let mut texts = Fields::new(payload);
     let Some(count) = texts.u16() else {
-        return Ok(());
+        return;
     };
     for index in 0..usize::from(count) {
         let Some(text) = next_text(&mut texts) else {
-            return Ok(());
+            return;
         };
         let at = At {
             place: (place + index) as u32,
             batch,
             receipt: receipts[place + index].receipt(),
         };
-        put_place(sink, sheet, accounts, at, Tx::decode(text).as_ref())?;
+        put_place(sink, sheet, accounts, at, Tx::decode(text).as_ref());
     }
-    Ok(())
 }
 
 // Puts the rows of the batches of an order from this one on, whose first place is this.
@@ -84,8 +73,8 @@ fn put_batches<K: Sink>(
     ledger: &Ledger,
     first: usize,
     start: usize,
-) -> Result<(), WriteFault>
-    requires sound { CanBeUsed (K.state sink.old) }
+)
+    requires ready { IsReady (desk sheet.old.page (K.state sink.old)) }
     requires open { intake.now.failed ≡ false }
     requires counts { ledger.now.counts ≡ map count_in intake.now.ordered.payloads.list }
     requires receipts { length ledger.now.receipts
@@ -95,12 +84,9 @@ fn put_batches<K: Sink>(
     requires within { first ≤ length intake.now.ordered.payloads.list }
     requires places { start ≡ length (transactions_of
         (take first intake.now.ordered.payloads.list)) }
-    requires size { size_of sheet.old.page ≤ 1800 * start + 100 }
-    ensures written { Written result (K.state sink.old) (K.state sink.new)
-        sheet.old.page sheet.new.page (payments_text accounts.now (rows_from ledger.now.receipts
-        first start (drop first intake.now.ordered.payloads.list))) }
-    ensures size { OnOk result (size_of sheet.new.page
-        ≤ 1800 * length (transactions_of intake.now.ordered.payloads.list) + 100) }
+    ensures { Puts (desk sheet.old.page (K.state sink.old)) (desk sheet.new.page (K.state sink.new))
+        (1800 * (length ledger.now.receipts - start)) (payments_text accounts.now
+        (rows_from ledger.now.receipts first start (drop first intake.now.ordered.payloads.list))) }
 {
     let receipts = ledger.receipts();
     let counts = ledger.counts();
@@ -116,11 +102,10 @@ fn put_batches<K: Sink>(
                 batch as u32,
                 place,
                 receipts,
-            )?;
+            );
             place += usize::from(count);
         }
     }
-    Ok(())
 }
 
 /// The table of payments of an order that grows: its header, and the rows of the batches that it has so far. Contracts see
@@ -138,39 +123,6 @@ impl Model for PaymentRows {
     ghost Value = { Shown };
 
     ghost view = { λ r. record { page = r.sheet.page; batch = r.batch; place = r.place } };
-}
-
-impl PaymentRows {
-    // Writes the rows of the batches that are not shown yet: those that name one of these accounts, or all of them. The
-    // header comes before the first row that is written. After an error it is not to be used again.
-    fn write_more<K: Sink>(
-        &mut self,
-        sink: &mut K,
-        accounts: &Option<Accounts>,
-        closed: &Closed<'_>,
-    ) -> Result<(), WriteFault>
-        requires sound { CanBeUsed (K.state sink.old) }
-        requires closed { (feed : FeedValue) × IsMadeOf (closed_value closed.now) feed }
-        requires shown { ShowsFirst 1800 closed.now.order.intake.now.ordered.payloads.list self.old }
-        ensures written { Written result (K.state sink.old) (K.state sink.new)
-            self.old.page self.new.page (payments_text accounts.now
-            (rows_from closed.now.ledger.now.receipts self.old.batch self.old.place
-            (drop self.old.batch closed.now.order.intake.now.ordered.payloads.list))) }
-        ensures shown { OnOk result
-            (ShowsAll 1800 closed.now.order.intake.now.ordered.payloads.list self.new) }
-        ensures out { OnOk result ((self.new.page.bytes ≡ []) ⊎ (self.new.page.out ≡ 0)) }
-    {
-        let intake = closed.order.intake;
-        let PaymentRows {
-            sheet,
-            batch,
-            place,
-        } = self;
-        put_batches(sink, sheet, accounts, intake, closed.ledger, *batch, *place)?;
-        *batch = closed.ledger.counts().len();
-        *place = closed.ledger.receipts().len();
-        sheet.page.flush_rows(sink)
-    }
 }
 
 impl TableRows for PaymentRows {
@@ -196,12 +148,21 @@ impl TableRows for PaymentRows {
         closed: &Closed<'_>,
     ) -> Result<(), Fault> {
         let _ = alloc;
-        self.write_more(sink, accounts, closed)?;
+        let PaymentRows {
+            sheet,
+            batch,
+            place,
+        } = self;
+        let intake = closed.order.intake;
+        put_batches(sink, sheet, accounts, intake, closed.ledger, *batch, *place);
+        *batch = closed.ledger.counts().len();
+        *place = closed.ledger.receipts().len();
+        sheet.page.end_rows(sink)?;
         Ok(())
     }
 
     fn put_end<K: Sink>(&mut self, sink: &mut K) -> Result<(), WriteFault> {
-        self.sheet.page.flush(sink)
+        self.sheet.page.end(sink)
     }
 
     ghost no_rows = { no_payments };

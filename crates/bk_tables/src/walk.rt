@@ -1,20 +1,19 @@
 //! The batches of an order, executed one after another, and what their places do to each account.
 
-ghost use Rattle.std.specs.Prelude.{◌≡◌, ◌+◌, ◌*◌, ◌≤◌, ◌<◌, ◌^◌, true, false, IsSome, drop, length, map, take, OnOk};
-ghost use Rattle.bk_frames.specs.Device.{CanBeUsed};
-ghost use Rattle.bk_report.specs.Pages.{Written, size_of};
+ghost use Rattle.std.specs.Prelude.{◌≡◌, ◌+◌, ◌-◌, ◌*◌, ◌≤◌, ◌<◌, ◌^◌, true, false, IsSome, drop, length, map, take, OnOk};
+ghost use Rattle.bk_report.specs.Pages.{IsReady, Puts, desk};
 ghost use Rattle.bk_rules.specs.Fold.{HasRoom, state_after};
 ghost use Rattle.bk_rules.specs.Ledger.{are_covered, ledger_of};
 ghost use Rattle.bk_tx.specs.Batches.{count_in, transactions_in, transactions_of};
 ghost use Rattle.bk_tables.specs.Postings.{postings_text};
-ghost use Rattle.bk_tables.specs.private.Walking.{IsReady, walk_rows};
+ghost use Rattle.bk_tables.specs.private.Walking.{HasSlotsFor, walk_rows};
 
 use crate::accounts::Accounts;
 use crate::parts::put_parts;
 use crate::sheet::Sheet;
 use crate::texts::next_text;
 use bk_base::{Fields, Version};
-use bk_frames::{Sink, WriteFault};
+use bk_frames::Sink;
 use bk_order::Intake;
 use bk_rules::State;
 use bk_tx::{Tx, push_transactions};
@@ -33,7 +32,7 @@ fn make_slots(
     first: usize,
 ) -> Result<(), AllocError>
     requires open { intake.now.failed ≡ false }
-    ensures { OnOk result (IsReady
+    ensures { OnOk result (HasSlotsFor
         (transactions_of (drop first intake.now.ordered.payloads.list)) state.old state.new) }
 {
     let mut txs = Vec::new(alloc);
@@ -57,7 +56,7 @@ pub(crate) fn cover(
     first: usize,
 ) -> Result<(), AllocError>
     requires open { intake.now.failed ≡ false }
-    ensures { OnOk result (IsReady
+    ensures { OnOk result (HasSlotsFor
         (transactions_of (drop first intake.now.ordered.payloads.list)) state.old state.new) }
 {
     match state.version() {
@@ -74,35 +73,31 @@ fn put_batch<K: Sink>(
     state: &mut State,
     payload: &[u8],
     place: usize,
-) -> Result<(), WriteFault>
-    requires sound { CanBeUsed (K.state sink.old) }
+)
+    requires ready { IsReady (desk sheet.old.page (K.state sink.old)) }
     requires grammar { IsSome (count_in payload.now) }
     requires covered { are_covered state.old.version state.old.slots
         (transactions_in payload.now) ≡ true }
     requires room { HasRoom state.old.version
         (length (transactions_in payload.now)) state.old.rows }
     requires few { place + length (transactions_in payload.now) < 2 ^ 32 }
-    requires size { size_of sheet.old.page ≤ 1200 * place + 100 }
-    ensures written { Written result (K.state sink.old) (K.state sink.new)
-        sheet.old.page sheet.new.page (postings_text accounts.now
+    ensures put { Puts (desk sheet.old.page (K.state sink.old)) (desk sheet.new.page (K.state sink.new))
+        (1200 * length (transactions_in payload.now)) (postings_text accounts.now
         (walk_rows state.old.version place (transactions_in payload.now) state.old.rows)) }
-    ensures after { OnOk result (state.new ≡ ledger_of state.old.version state.old.slots
-        (state_after state.old.version (transactions_in payload.now) state.old.rows)) }
-    ensures size { OnOk result (size_of sheet.new.page
-        ≤ 1200 * (place + length (transactions_in payload.now)) + 100) }
+    ensures after { state.new ≡ ledger_of state.old.version state.old.slots
+        (state_after state.old.version (transactions_in payload.now) state.old.rows) }
 {
     let mut texts = Fields::new(payload);
     let Some(count) = texts.u16() else {
-        return Ok(());
+        return;
     };
     for index in 0..usize::from(count) {
         let Some(text) = next_text(&mut texts) else {
-            return Ok(());
+            return;
         };
         let tx = Tx::decode(text);
-        put_parts(sink, sheet, accounts, state, place + index, tx.as_ref())?;
+        put_parts(sink, sheet, accounts, state, place + index, tx.as_ref());
     }
-    Ok(())
 }
 
 /// Executes the batches of an order from this one on, whose first place is this, and puts their rows.
@@ -115,8 +110,8 @@ pub(crate) fn put_batches<K: Sink>(
     counts: &[Option<u16>],
     first: usize,
     start: usize,
-) -> Result<(), WriteFault>
-    requires sound { CanBeUsed (K.state sink.old) }
+)
+    requires ready { IsReady (desk sheet.old.page (K.state sink.old)) }
     requires open { intake.now.failed ≡ false }
     requires counts { counts.now ≡ map count_in intake.now.ordered.payloads.list }
     requires covered { are_covered state.old.version state.old.slots
@@ -127,23 +122,20 @@ pub(crate) fn put_batches<K: Sink>(
     requires within { first ≤ length intake.now.ordered.payloads.list }
     requires places { start ≡ length (transactions_of
         (take first intake.now.ordered.payloads.list)) }
-    requires size { size_of sheet.old.page ≤ 1200 * start + 100 }
-    ensures written { Written result (K.state sink.old) (K.state sink.new)
-        sheet.old.page sheet.new.page (postings_text accounts.now (walk_rows state.old.version start
+    ensures put { Puts (desk sheet.old.page (K.state sink.old)) (desk sheet.new.page (K.state sink.new))
+        (1200 * (length (transactions_of intake.now.ordered.payloads.list) - start))
+        (postings_text accounts.now (walk_rows state.old.version start
         (transactions_of (drop first intake.now.ordered.payloads.list)) state.old.rows)) }
-    ensures after { OnOk result (state.new ≡ ledger_of state.old.version state.old.slots
+    ensures after { state.new ≡ ledger_of state.old.version state.old.slots
         (state_after state.old.version
-        (transactions_of (drop first intake.now.ordered.payloads.list)) state.old.rows)) }
-    ensures size { OnOk result (size_of sheet.new.page
-        ≤ 1200 * length (transactions_of intake.now.ordered.payloads.list) + 100) }
+        (transactions_of (drop first intake.now.ordered.payloads.list)) state.old.rows) }
 {
     let mut place = start;
     for batch in first..counts.len() {
         if let Some(count) = counts[batch] {
             let payload = intake.payload(batch);
-            put_batch(sink, sheet, accounts, state, payload, place)?;
+            put_batch(sink, sheet, accounts, state, payload, place);
             place += usize::from(count);
         }
     }
-    Ok(())
 }

@@ -17,18 +17,18 @@ no_payments ids version genesis = refl
 pub no_postings : (ids : Option (List ℕ)) (version : Version) (genesis : List Row) → (postings ids).rows version genesis [] ≡ []
 no_postings ids version genesis = refl
 
--- headers and rows are short
+-- headers are short
 payments_size : length (row_text payments_header) ≡ 68
 payments_size = refl
 
-pub payments_short : (ids : Option (List ℕ)) → (length (payments ids).header ≤ 100) × ((payments ids).most ≤ 1800)
-payments_short ids = (omega (arith, payments_size), omega arith)
+pub payments_short : (ids : Option (List ℕ)) → length (payments ids).header ≤ 100
+payments_short ids = omega (arith, payments_size)
 
 postings_size : length (row_text postings_header) ≡ 45
 postings_size = refl
 
-pub postings_short : (ids : Option (List ℕ)) → (length (postings ids).header ≤ 100) × ((postings ids).most ≤ 1800)
-postings_short ids = (omega (arith, postings_size), omega arith)
+pub postings_short : (ids : Option (List ℕ)) → length (postings ids).header ≤ 100
+postings_short ids = omega (arith, postings_size)
 
 -- header and rows are the table
 pub payments_table : (ids : Option (List ℕ)) → IsTextOf (payments ids)

@@ -4,4 +4,4 @@ use Rattle.bk_report.specs.Pages.{PageValue}
 
 -- the page with a text before its bytes
 abbrev pub with_front : List ℕ → PageValue → PageValue
-with_front front page = record { out = page.out; bytes = front ++ page.bytes }
+with_front front page = record { out = page.out; bytes = front ++ page.bytes; failed = page.failed }

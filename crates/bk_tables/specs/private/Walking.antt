@@ -95,7 +95,7 @@ walk_rows version place (t ∷ more) rows =
 -- ---- the accounts before the first place
 
 -- the ledger is the same, but that there is a slot for each account that these transactions declare
-pub record IsReady (txs : List (Option Transaction)) (old new : Ledger) : Type 0 where
+pub record HasSlotsFor (txs : List (Option Transaction)) (old new : Ledger) : Type 0 where
   pub version : new.version ≡ old.version
   pub rows : new.rows ≡ old.rows
   pub covered : are_covered new.version new.slots txs ≡ true

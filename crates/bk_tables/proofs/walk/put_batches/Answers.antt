@@ -1,16 +1,18 @@
 use Rattle.std.proofs.Common.{ℕ, List, [], None, ◌+◌, drop, get_or, length, refl, sym, ap, ◌∙◌, arith}
 use Rattle.std.proofs.lemmas.List.{length-map}
 use Rattle.std.proofs.lemmas.Option.{slice_get-get_or}
-use Rattle.std.proofs.lemmas.Result.{err_from_is_err_and}
 use Rattle.bk_tx.specs.Batches.{count_in, transactions_in, transactions_of}
 use Rattle.bk_tables.proofs.BatchWalks.{count_here, count_none, count_some, next_place, places_inside}
-use Rattle.bk_tables.proofs.PostingWalks.{part_covered, part_put, part_room, part_walk_stops, walk_begun, walk_done, walk_same}
+use Rattle.bk_tables.proofs.PostingWalks.{part_covered, part_put, part_room, walk_begun, walk_done, walk_ends, walk_same}
 use Rattle.bk_tables.proofs.Slots.{all_txs, left_txs, no_txs, void_txs}
-use Rattle.bk_tables.proofs.walk.put_batches.Goals.{in-Some+in_ok-put_batch, in_default}
+use Rattle.bk_tables.proofs.walk.put_batches.Goals.{in-Some, in_default}
 use Rattle.bk_tables.proofs.walk.put_batches.Goals as goal
 
 pub loop-batch-init : goal.loop-batch-init
-loop-batch-init g c = record { walks = walk_begun _ _ c.args.start c.args.state.now _ _ c.requires.covered c.requires.room; place = c.requires.places; size = c.requires.size }
+loop-batch-init g c = record { walks = walk_begun _ _ c.args.start c.args.state.now _ c.requires.ready c.requires.covered c.requires.room; place = c.requires.places; low = omega arith }
+
+pub put_batch-requires-clause-ready : goal.put_batch-requires-clause-ready
+put_batch-requires-clause-ready g c = c.loop-batch.invariant.walks.put.puts.ready
 
 pub put_batch-requires-clause-grammar : goal.put_batch-requires-clause-grammar
 put_batch-requires-clause-grammar g c =
@@ -21,27 +23,19 @@ put_batch-requires-clause-covered g c =
     let payloads = c.args.intake.now.ordered.payloads.list in
     let payload = c.payload-payload.result.now in
     part_covered c.args.accounts.now (transactions_of (drop c.loop-batch.batch payloads)) (transactions_in payload) (transactions_of (drop (c.loop-batch.batch + 1) payloads)) (left_txs payloads c.loop-batch.batch payload c.payload-payload.ensures)
-    c.loop-batch.place (c.loop-batch.place + length (transactions_in payload)) refl c.loop-batch.state _ _ _ _ _ _ c.loop-batch.invariant.walks
+    c.loop-batch.place (c.loop-batch.place + length (transactions_in payload)) refl c.loop-batch.state _ c.loop-batch.invariant.walks
 
 pub put_batch-requires-clause-room : goal.put_batch-requires-clause-room
 put_batch-requires-clause-room g c =
     let payloads = c.args.intake.now.ordered.payloads.list in
     let payload = c.payload-payload.result.now in
     part_room c.args.accounts.now (transactions_of (drop c.loop-batch.batch payloads)) (transactions_in payload) (transactions_of (drop (c.loop-batch.batch + 1) payloads)) (left_txs payloads c.loop-batch.batch payload c.payload-payload.ensures)
-    c.loop-batch.place (c.loop-batch.place + length (transactions_in payload)) refl c.loop-batch.state _ _ _ _ _ _ c.loop-batch.invariant.walks
+    c.loop-batch.place (c.loop-batch.place + length (transactions_in payload)) refl c.loop-batch.state _ c.loop-batch.invariant.walks
 
 pub put_batch-requires-clause-few : goal.put_batch-requires-clause-few
 put_batch-requires-clause-few g c =
     let inside = places_inside c.args.intake.now.ordered.payloads.list c.loop-batch.batch c.payload-payload.result.now c.payload-payload.ensures in
     omega (arith, inside, c.loop-batch.invariant.place, c.requires.few)
-
-pub returns-in_err-put_batch-clause-written : goal.returns-in_err-put_batch-clause-written
-returns-in_err-put_batch-clause-written g c =
-    let p = err_from_is_err_and c.from_residual.result c.from_residual.ensures.1 in
-    let payloads = c.args.intake.now.ordered.payloads.list in
-    let payload = c.payload-payload.result.now in
-    rw (p.1, p.2) (part_walk_stops c.args.accounts.now (transactions_of (drop c.loop-batch.batch payloads)) (transactions_in payload) (transactions_of (drop (c.loop-batch.batch + 1) payloads)) (left_txs payloads c.loop-batch.batch payload c.payload-payload.ensures)
-    c.loop-batch.place (c.loop-batch.place + length (transactions_in payload)) refl c.loop-batch.state _ _ _ _ _ _ c.loop-batch.invariant.walks _ _ c.in_err-put_batch.ensures.written)
 
 pub overflow_add-place : goal.overflow_add-place
 overflow_add-place g c =
@@ -54,14 +48,14 @@ pub loop-batch-preserved : goal.loop-batch-preserved
 loop-batch-preserved g c =
     let payloads = c.args.intake.now.ordered.payloads.list in
     elim c.match-counts-batch.branch [
-      | in-Some+in_ok-put_batch w ↦
+      | in-Some w ↦
           let payload = w.payload-payload.result.now in
           let n = (count_some payload w.in-Some.count (sym (count_here payloads c.args.counts.now c.loop-batch.batch None payload c.requires.counts c.loop-batch-test.true w.payload-payload.ensures) ∙ w.in-Some.is)).1 in
           rw (w.sink-is, w.sheet-is, w.state-is, w.place-is) (record {
             walks = part_put c.args.accounts.now (transactions_of (drop c.loop-batch.batch payloads)) (transactions_in payload) (transactions_of (drop (c.loop-batch.batch + 1) payloads)) (left_txs payloads c.loop-batch.batch payload w.payload-payload.ensures)
-                c.loop-batch.place (c.loop-batch.place + w.from-place.result) (omega (arith, n, w.from-place.ensures)) c.loop-batch.state _ _ _ _ _ _ c.loop-batch.invariant.walks _ _ _ w.in_ok-put_batch.ensures.after w.in_ok-put_batch.ensures.written;
+                c.loop-batch.place (c.loop-batch.place + w.from-place.result) (omega (arith, n, w.from-place.ensures)) c.loop-batch.state _ c.loop-batch.invariant.walks _ _ w.put_batch.ensures.after w.put_batch.ensures.put (omega (arith, n, w.from-place.ensures, c.loop-batch.invariant.low));
             place = let m = next_place payloads c.loop-batch.batch payload w.payload-payload.ensures in omega (arith, m, n, w.from-place.ensures, c.loop-batch.invariant.place);
-            size = let s = w.in_ok-put_batch.ensures.size in omega (arith, s, n, w.from-place.ensures);
+            low = omega (arith, c.loop-batch.invariant.low);
           })
       | in_default w ↦
           let low = ap length c.requires.counts ∙ length-map payloads count_in in
@@ -69,27 +63,22 @@ loop-batch-preserved g c =
           let here = slice_get-get_or payloads c.loop-batch.batch [] (omega (arith, low, c.loop-batch-test.true)) in
           let none = count_none payload (sym (count_here payloads c.args.counts.now c.loop-batch.batch None payload c.requires.counts c.loop-batch-test.true here) ∙ w.in_default.is) in
           rw (w.sink-is, w.sheet-is, w.state-is, w.place-is) (record {
-            walks = walk_same _ _ _ _ _ _ _ _ _ _ _ (void_txs payloads c.loop-batch.batch payload here none) c.loop-batch.invariant.walks;
+            walks = walk_same _ _ _ _ _ _ (void_txs payloads c.loop-batch.batch payload here none) c.loop-batch.invariant.walks;
             place = let m = next_place payloads c.loop-batch.batch payload here in let n = ap length none in omega (arith, m, n, c.loop-batch.invariant.place);
-            size = c.loop-batch.invariant.size;
+            low = c.loop-batch.invariant.low;
           })
     ]
 
-pub returns-clause-written : goal.returns-clause-written
-returns-clause-written g c =
-    let payloads = c.args.intake.now.ordered.payloads.list in
-    let low = ap length c.requires.counts ∙ length-map payloads count_in in
-    (walk_done c.args.accounts.now (transactions_of (drop c.loop-batch.batch payloads)) c.loop-batch.place c.loop-batch.state _ _ _ _ _ _ (no_txs payloads c.loop-batch.batch (omega (arith, low, c.loop-batch-test.false))) c.loop-batch.invariant.walks).0
-
-pub returns-clause-size : goal.returns-clause-size
-returns-clause-size g c =
+pub returns-clause-put : goal.returns-clause-put
+returns-clause-put g c =
     let payloads = c.args.intake.now.ordered.payloads.list in
     let low = ap length c.requires.counts ∙ length-map payloads count_in in
     let all = ap length (all_txs payloads c.loop-batch.batch (omega (arith, low, c.loop-batch-test.false))) in
-    omega (arith, all, c.loop-batch.invariant.place, c.loop-batch.invariant.size, c.requires.few)
+    walk_done c.args.accounts.now (transactions_of (drop c.loop-batch.batch payloads)) c.loop-batch.place c.loop-batch.state _ _ (no_txs payloads c.loop-batch.batch (omega (arith, low, c.loop-batch-test.false))) c.loop-batch.invariant.walks
+    (omega (arith, all, c.loop-batch.invariant.place))
 
 pub returns-clause-after : goal.returns-clause-after
 returns-clause-after g c =
     let payloads = c.args.intake.now.ordered.payloads.list in
     let low = ap length c.requires.counts ∙ length-map payloads count_in in
-    (walk_done c.args.accounts.now (transactions_of (drop c.loop-batch.batch payloads)) c.loop-batch.place c.loop-batch.state _ _ _ _ _ _ (no_txs payloads c.loop-batch.batch (omega (arith, low, c.loop-batch-test.false))) c.loop-batch.invariant.walks).1
+    walk_ends c.args.accounts.now (transactions_of (drop c.loop-batch.batch payloads)) c.loop-batch.place c.loop-batch.state _ (no_txs payloads c.loop-batch.batch (omega (arith, low, c.loop-batch-test.false))) c.loop-batch.invariant.walks
