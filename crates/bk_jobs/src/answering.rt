@@ -10,7 +10,7 @@ use crate::claiming::check_claim;
 use crate::comparing::compare_feeds;
 use crate::feeds::{apply_all, by_ledger, diagnose, draw_rounds, show};
 use crate::following::{follow, follow_some};
-use crate::job_end::{JobEnd, Terms};
+use crate::job_end::{Engine, JobEnd};
 use crate::listing::list;
 use crate::picking::pick;
 use crate::queries::reply;
@@ -29,8 +29,7 @@ use std::time::Clock;
 pub(crate) fn answer<R, G: Gate + Sync, S1: Source, S2: Source, O: Sink>(
     rt: &R,
     job: &Job,
-    terms: Terms,
-    gate: &G,
+    engine: &Engine<'_, G>,
     first: &mut S1,
     second: &mut S2,
     out: &mut O,
@@ -40,46 +39,40 @@ where
     requires first { CanBeUsed (S1.state first.old) }
     requires second { CanBeUsed (S2.state second.old) }
     requires out { CanBeUsed (O.state out.old) }
-    ensures { JobEnds job.now terms.strict result
+    ensures { JobEnds job.now engine.now.terms.strict result
         (job_devices (S1.state first.old) (S2.state second.old) (O.state out.old))
         (job_devices (S1.state first.new) (S2.state second.new) (O.state out.new)) }
 {
     match job {
-        Job::Run { workers, .. } => by_ledger(rt, terms, gate, *workers, first, out, &Report),
+        Job::Run { .. } => by_ledger(rt, engine, first, out, &Report),
         Job::Make { .. } => make_feed(rt, first, out),
         Job::CheckProof { root, account, .. } => check(rt, root.as_bytes(), *account, first, out),
-        Job::Ask { workers, asked, .. } => reply(rt, terms, gate, asked, *workers, first, out),
-        Job::CheckReport { workers, .. } => {
-            check_claim(rt, terms, gate, *workers, first, second, out)
-        }
+        Job::Ask { asked, .. } => reply(rt, engine, asked, first, out),
+        Job::CheckReport { .. } => check_claim(rt, engine, first, second, out),
         Job::Frames { .. } => list(rt, first, out),
-        Job::Summary { workers, .. } => {
+        Job::Summary { .. } => {
             let summary = AtOnce { answer: &Summarize };
-            by_ledger(rt, terms, gate, *workers, first, out, &summary)
+            by_ledger(rt, engine, first, out, &summary)
         }
-        Job::Dag { window, .. } => draw_rounds(rt, terms, *window, first, out),
+        Job::Dag { window, .. } => draw_rounds(rt, engine.terms, *window, first, out),
         Job::Apply { .. } => apply_all(rt, first, out),
         Job::Schedule { workers, .. } => schedule(rt, *workers, first, second, out),
-        Job::Compare { .. } => compare_feeds(rt, terms, gate, first, second, out),
-        Job::Show { workers, shown, .. } => show(rt, terms, gate, *shown, *workers, first, out),
-        Job::Pick { workers, shown, .. } => {
-            pick(rt, terms, gate, *shown, *workers, first, second, out)
-        }
+        Job::Compare { .. } => compare_feeds(rt, engine, first, second, out),
+        Job::Show { shown, .. } => show(rt, engine, *shown, first, out),
+        Job::Pick { shown, .. } => pick(rt, engine, *shown, first, second, out),
         Job::Follow {
-            workers,
             shown,
             accounts: None,
             wait,
             ..
-        } => follow(rt, terms, gate, *shown, *workers, *wait, first, out),
+        } => follow(rt, engine, *shown, *wait, first, out),
         Job::Follow {
-            workers,
             shown,
             accounts: Some(_),
             wait,
             ..
-        } => follow_some(rt, terms, gate, *shown, *workers, *wait, first, second, out),
-        Job::Diagnose { sought, .. } => diagnose(rt, terms, *sought, first, out),
+        } => follow_some(rt, engine, *shown, *wait, first, second, out),
+        Job::Diagnose { sought, .. } => diagnose(rt, engine.terms, *sought, first, out),
         Job::CheckChain { .. } => check_links(rt, first, out),
     }
 }

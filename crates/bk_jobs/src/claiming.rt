@@ -6,8 +6,7 @@ ghost use Rattle.bk_jobs.specs.Jobs.{ClaimEnds};
 ghost use Rattle.bk_jobs.specs.Reports.{exit_by_verdict, fault_by_stop};
 ghost use Rattle.bk_jobs.specs.Sources.{job_devices};
 
-use crate::job_end::{JobEnd, Terms};
-use bk_base::Workers;
+use crate::job_end::{Engine, JobEnd};
 use bk_claim::{ClaimStop, Verdict, check_report};
 use bk_cli::{Exit, JobFault};
 use bk_frames::{Sink, Source};
@@ -40,9 +39,7 @@ fn fault_of(stop: ClaimStop) -> JobFault
 /// Writes the verdict on whether a text is the report of a feed. The text is read once the feed's report is made.
 pub(crate) fn check_claim<R, G: Gate + Sync, S1: Source, S2: Source, O: Sink>(
     rt: &R,
-    terms: Terms,
-    gate: &G,
-    workers: Workers,
+    engine: &Engine<'_, G>,
     feed: &mut S1,
     claimed: &mut S2,
     out: &mut O,
@@ -52,11 +49,12 @@ where
     requires feed { CanBeUsed (S1.state feed.old) }
     requires claimed { CanBeUsed (S2.state claimed.old) }
     requires out { CanBeUsed (O.state out.old) }
-    ensures { ClaimEnds terms.strict result
+    ensures { ClaimEnds engine.now.terms.strict result
         (job_devices (S1.state feed.old) (S2.state claimed.old) (O.state out.old))
         (job_devices (S1.state feed.new) (S2.state claimed.new) (O.state out.new)) }
 {
-    let settings = terms.settings(workers);
+    let Engine { terms, gate, .. } = *engine;
+    let settings = engine.settings();
     match check_report(
         rt,
         rt.alloc(),

@@ -6,8 +6,7 @@ ghost use Rattle.bk_jobs.specs.Comparisons.{agree_text, compared_end, or_flaw};
 ghost use Rattle.bk_jobs.specs.Jobs.{CompareEnds};
 ghost use Rattle.bk_jobs.specs.Sources.{job_devices};
 
-use crate::job_end::{JobEnd, Terms};
-use crate::machine::all_workers;
+use crate::job_end::{Engine, JobEnd};
 use bk_cli::{Exit, JobFault, Piece, Remarks, ShortLine, short_line};
 use bk_compare::{Compared, compare_with_gaps};
 use bk_frames::{Sink, Source, push_all};
@@ -59,8 +58,7 @@ fn end_of(compared: &Compared) -> JobEnd
 /// Writes how far the feeds of two sources agree. The second is read once the first was followed to its end.
 pub(crate) fn compare_feeds<R, G: Gate + Sync, S1: Source, S2: Source, O: Sink>(
     rt: &R,
-    terms: Terms,
-    gate: &G,
+    engine: &Engine<'_, G>,
     first: &mut S1,
     second: &mut S2,
     out: &mut O,
@@ -70,11 +68,12 @@ where
     requires first { CanBeUsed (S1.state first.old) }
     requires second { CanBeUsed (S2.state second.old) }
     requires out { CanBeUsed (O.state out.old) }
-    ensures { CompareEnds terms.strict result
+    ensures { CompareEnds engine.now.terms.strict result
         (job_devices (S1.state first.old) (S2.state second.old) (O.state out.old))
         (job_devices (S1.state first.new) (S2.state second.new) (O.state out.new)) }
 {
-    let settings = terms.settings(all_workers(rt));
+    let Engine { terms, gate, .. } = *engine;
+    let settings = engine.settings();
     let strict = terms.strict;
     let compared = match compare_with_gaps(rt, rt.alloc(), first, second, settings, gate, strict) {
         Ok(compared) => compared,

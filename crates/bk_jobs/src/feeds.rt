@@ -9,10 +9,9 @@ ghost use Rattle.bk_jobs.specs.Jobs.{ApplyEnds, DiagnosisEnds, FeedEnds, FramesE
 ghost use Rattle.bk_jobs.specs.Views.{executes_to_show, view_text};
 ghost use Rattle.bk_tables.specs.Tables.{IsBatchTable};
 
-use crate::job_end::{JobEnd, Terms};
+use crate::job_end::{Engine, JobEnd, Terms};
 use bk_answer::{Answer, AtOnce, FrameAnswer, Judged, OrderAnswer};
 use bk_apply::apply;
-use bk_base::Workers;
 use bk_chain::Link;
 use bk_cli::{Diagnosis, Exit, JobFault, View, Window};
 use bk_diagnosis::{Evidence, Missing, Waiting};
@@ -28,9 +27,7 @@ use std::thread::Threads;
 /// Writes an answer that needs the batches executed, and whose end says whether a batch is missing.
 pub(crate) fn by_ledger<R, G: Gate + Sync, S: Source, O: Sink, A: Answer<End = Status>>(
     rt: &R,
-    terms: Terms,
-    gate: &G,
-    workers: Workers,
+    engine: &Engine<'_, G>,
     source: &mut S,
     out: &mut O,
     answer: &A,
@@ -40,17 +37,17 @@ where
     requires ask { A.can_ask answer.now }
     requires source { CanBeUsed (S.state source.old) }
     requires out { CanBeUsed (O.state out.old) }
-    ensures { FeedEnds (A.text answer.now) exit_at true terms.strict result
+    ensures { FeedEnds (A.text answer.now) exit_at true engine.now.terms.strict result
         (devices (S.state source.old) (O.state out.old))
         (devices (S.state source.new) (O.state out.new)) }
 {
     let asked = Judged {
         answer,
-        strict: terms.strict,
+        strict: engine.terms.strict,
         last: true,
     };
-    let settings = terms.settings(workers);
-    match answer_by_ledger(rt, rt.alloc(), source, out, settings, gate, &asked) {
+    let Engine { gate, .. } = *engine;
+    match answer_by_ledger(rt, rt.alloc(), source, out, engine.settings(), gate, &asked) {
         Ok(ended) => Ok(JobEnd::with(Exit::at(ended.end), ended.flaw)),
         Err(fault) => Err(JobFault::Replay(fault)),
     }
@@ -83,10 +80,8 @@ fn show_batches<R: Threads + Sync + AllocGlobal, S: Source, O: Sink>(
 /// Writes what is shown of a feed.
 pub(crate) fn show<R, G: Gate + Sync, S: Source, O: Sink>(
     rt: &R,
-    terms: Terms,
-    gate: &G,
+    engine: &Engine<'_, G>,
     shown: View,
-    workers: Workers,
     source: &mut S,
     out: &mut O,
 ) -> Result<JobEnd, JobFault>
@@ -94,23 +89,23 @@ where
     R: Threads + Wait + Sync + AllocGlobal,
     requires source { CanBeUsed (S.state source.old) }
     requires out { CanBeUsed (O.state out.old) }
-    ensures { FeedEnds (view_text shown) exit_at (executes_to_show shown) terms.strict result
+    ensures { FeedEnds (view_text shown) exit_at (executes_to_show shown) engine.now.terms.strict result
         (devices (S.state source.old) (O.state out.old))
         (devices (S.state source.new) (O.state out.new)) }
 {
     match shown {
         View::Transactions => {
             let all = Transactions { accounts: None };
-            by_ledger(rt, terms, gate, workers, source, out, &all)
+            by_ledger(rt, engine, source, out, &all)
         }
         View::Postings => {
             let all = Postings { accounts: None };
-            by_ledger(rt, terms, gate, workers, source, out, &all)
+            by_ledger(rt, engine, source, out, &all)
         }
-        View::Batches => show_batches(rt, terms, source, out),
+        View::Batches => show_batches(rt, engine.terms, source, out),
         View::Link => {
             let link = AtOnce { answer: &Link };
-            by_ledger(rt, terms, gate, workers, source, out, &link)
+            by_ledger(rt, engine, source, out, &link)
         }
     }
 }

@@ -8,10 +8,9 @@ ghost use Rattle.bk_jobs.specs.Jobs.{FollowEnds, TailEnds};
 ghost use Rattle.bk_jobs.specs.Sources.{job_devices};
 ghost use Rattle.bk_jobs.specs.Views.{table_text};
 
-use crate::job_end::{JobEnd, Terms};
+use crate::job_end::{Engine, JobEnd};
 use crate::picking::fault_of;
 use bk_answer::Ended;
-use bk_base::Workers;
 use bk_cli::{Exit, JobFault, Table};
 use bk_frames::{Sink, Source};
 use bk_pool::Gate;
@@ -35,10 +34,8 @@ fn end_of(followed: Result<Ended<Status>, Fault>) -> Result<JobEnd, JobFault>
 // Writes the rows of a table as they become final, those that have one of these accounts alone, where there is a list.
 fn follow_table<R, G: Gate + Sync, S: Source, O: Sink>(
     rt: &R,
-    terms: Terms,
-    gate: &G,
+    engine: &Engine<'_, G>,
     shown: Table,
-    workers: Workers,
     wait: bool,
     source: &mut S,
     accounts: Option<Accounts>,
@@ -48,12 +45,13 @@ where
     R: AllocGlobal + Clock + Threads + Wait + Sync,
     requires source { CanBeUsed (S.state source.old) }
     requires out { CanBeUsed (O.state out.old) }
-    ensures { TailEnds (table_text shown accounts) wait terms.strict result
+    ensures { TailEnds (table_text shown accounts) wait engine.now.terms.strict result
         (devices (S.state source.old) (O.state out.old))
         (devices (S.state source.new) (O.state out.new)) }
 {
-    let settings = terms.settings(workers);
-    let strict = terms.strict;
+    let settings = engine.settings();
+    let strict = engine.terms.strict;
+    let Engine { gate, .. } = *engine;
     match shown {
         Table::Transactions => end_of(tail_table::<R, S, O, G, PaymentRows>(
             rt,
@@ -83,10 +81,8 @@ where
 /// Writes the rows of a table as they become final. Where it is waited for, the feed has no end.
 pub(crate) fn follow<R, G: Gate + Sync, S: Source, O: Sink>(
     rt: &R,
-    terms: Terms,
-    gate: &G,
+    engine: &Engine<'_, G>,
     shown: Table,
-    workers: Workers,
     wait: bool,
     source: &mut S,
     out: &mut O,
@@ -95,21 +91,19 @@ where
     R: AllocGlobal + Clock + Threads + Wait + Sync,
     requires source { CanBeUsed (S.state source.old) }
     requires out { CanBeUsed (O.state out.old) }
-    ensures { TailEnds (table_text shown None) wait terms.strict result
+    ensures { TailEnds (table_text shown None) wait engine.now.terms.strict result
         (devices (S.state source.old) (O.state out.old))
         (devices (S.state source.new) (O.state out.new)) }
 {
-    follow_table(rt, terms, gate, shown, workers, wait, source, None, out)
+    follow_table(rt, engine, shown, wait, source, None, out)
 }
 
 /// Writes the rows of a table that have an account of a list as they become final. The list is read and judged before the
 /// feed is. Where it is waited for, the feed has no end.
 pub(crate) fn follow_some<R, G: Gate + Sync, S1: Source, S2: Source, O: Sink>(
     rt: &R,
-    terms: Terms,
-    gate: &G,
+    engine: &Engine<'_, G>,
     shown: Table,
-    workers: Workers,
     wait: bool,
     feed: &mut S1,
     list: &mut S2,
@@ -120,22 +114,12 @@ where
     requires feed { CanBeUsed (S1.state feed.old) }
     requires list { CanBeUsed (S2.state list.old) }
     requires out { CanBeUsed (O.state out.old) }
-    ensures { FollowEnds shown true wait terms.strict result
+    ensures { FollowEnds shown true wait engine.now.terms.strict result
         (job_devices (S1.state feed.old) (S2.state list.old) (O.state out.old))
         (job_devices (S1.state feed.new) (S2.state list.new) (O.state out.new)) }
 {
     match read_accounts(rt.alloc(), list) {
-        Ok(accounts) => follow_table(
-            rt,
-            terms,
-            gate,
-            shown,
-            workers,
-            wait,
-            feed,
-            Some(accounts),
-            out,
-        ),
+        Ok(accounts) => follow_table(rt, engine, shown, wait, feed, Some(accounts), out),
         Err(fault) => Err(fault_of(fault)),
     }
 }

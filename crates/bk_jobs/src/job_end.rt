@@ -44,12 +44,22 @@ pub(crate) struct Terms {
     pub(crate) key: HashKey,
 }
 
-impl Terms {
-    /// How a feed is followed on these terms.
-    pub(crate) fn settings(self, workers: Workers) -> Settings {
+/// What executes batches, and on which terms.
+#[derive(Drop)]
+pub(crate) struct Engine<'a, G> {
+    pub(crate) terms: Terms,
+    /// How many threads execute.
+    pub(crate) workers: Workers,
+    /// What they call between their steps.
+    pub(crate) gate: &'a G,
+}
+
+impl<G> Engine<'_, G> {
+    /// How it follows a feed.
+    pub(crate) fn settings(&self) -> Settings {
         Settings {
-            workers,
-            key: self.key,
+            workers: self.workers,
+            key: self.terms.key,
         }
     }
 }

@@ -9,8 +9,7 @@ ghost use Rattle.bk_jobs.specs.Sources.{job_devices};
 ghost use Rattle.bk_jobs.specs.Views.{fault_by_list, table_text};
 
 use crate::feeds::by_ledger;
-use crate::job_end::{JobEnd, Terms};
-use bk_base::Workers;
+use crate::job_end::{Engine, JobEnd};
 use bk_cli::{JobFault, Table};
 use bk_frames::{Sink, Source};
 use bk_pool::Gate;
@@ -34,10 +33,8 @@ pub(crate) fn fault_of(fault: LinesFault) -> JobFault
 // Writes the rows of a table that have one of these accounts.
 fn pick_of<R, G: Gate + Sync, S: Source, O: Sink>(
     rt: &R,
-    terms: Terms,
-    gate: &G,
+    engine: &Engine<'_, G>,
     shown: Table,
-    workers: Workers,
     source: &mut S,
     accounts: Accounts,
     out: &mut O,
@@ -46,7 +43,7 @@ where
     R: Threads + Wait + Sync + AllocGlobal,
     requires source { CanBeUsed (S.state source.old) }
     requires out { CanBeUsed (O.state out.old) }
-    ensures { FeedEnds (table_text shown (Some accounts)) exit_at true terms.strict result
+    ensures { FeedEnds (table_text shown (Some accounts)) exit_at true engine.now.terms.strict result
         (devices (S.state source.old) (O.state out.old))
         (devices (S.state source.new) (O.state out.new)) }
 {
@@ -54,11 +51,11 @@ where
     match shown {
         Table::Transactions => {
             let rows = Transactions { accounts };
-            by_ledger(rt, terms, gate, workers, source, out, &rows)
+            by_ledger(rt, engine, source, out, &rows)
         }
         Table::Postings => {
             let rows = Postings { accounts };
-            by_ledger(rt, terms, gate, workers, source, out, &rows)
+            by_ledger(rt, engine, source, out, &rows)
         }
     }
 }
@@ -66,10 +63,8 @@ where
 /// Writes the rows of a table that have an account of a list, which is read and judged before the feed is.
 pub(crate) fn pick<R, G: Gate + Sync, S1: Source, S2: Source, O: Sink>(
     rt: &R,
-    terms: Terms,
-    gate: &G,
+    engine: &Engine<'_, G>,
     shown: Table,
-    workers: Workers,
     feed: &mut S1,
     list: &mut S2,
     out: &mut O,
@@ -79,12 +74,12 @@ where
     requires feed { CanBeUsed (S1.state feed.old) }
     requires list { CanBeUsed (S2.state list.old) }
     requires out { CanBeUsed (O.state out.old) }
-    ensures { PickEnds shown terms.strict result
+    ensures { PickEnds shown engine.now.terms.strict result
         (job_devices (S1.state feed.old) (S2.state list.old) (O.state out.old))
         (job_devices (S1.state feed.new) (S2.state list.new) (O.state out.new)) }
 {
     match read_accounts(rt.alloc(), list) {
-        Ok(accounts) => pick_of(rt, terms, gate, shown, workers, feed, accounts, out),
+        Ok(accounts) => pick_of(rt, engine, shown, feed, accounts, out),
         Err(fault) => Err(fault_of(fault)),
     }
 }

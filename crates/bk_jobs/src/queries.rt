@@ -5,11 +5,9 @@ ghost use Rattle.bk_frames.specs.Device.{CanBeUsed};
 ghost use Rattle.bk_results.specs.Devices.{devices};
 ghost use Rattle.bk_jobs.specs.Jobs.{QueryEnds, absent_by, absent_of, exit_by_reply, reply_end};
 
-use crate::job_end::{JobEnd, Terms};
-use crate::machine::all_workers;
+use crate::job_end::{Engine, JobEnd};
 use bk_answer::Ended;
 use bk_ask::{Replied, ask};
-use bk_base::Workers;
 use bk_cli::{Exit, JobFault, Remarks};
 use bk_digest::Digest32;
 use bk_frames::{Sink, Source};
@@ -70,25 +68,11 @@ fn end_by(asked: &Query, ended: &Ended<Replied>) -> JobEnd
     }
 }
 
-// How many workers execute for a query: those of the command line, where it can say it, else one for each processor.
-fn workers_for<R: Threads>(rt: &R, asked: &Query, workers: Workers) -> Workers {
-    match *asked {
-        Query::State { .. } | Query::Statement { .. } => workers,
-        Query::Order
-        | Query::Anchors
-        | Query::Account { .. }
-        | Query::Receipt { .. }
-        | Query::Proof { .. } => all_workers(rt),
-    }
-}
-
 /// Writes the reply to a query.
 pub(crate) fn reply<R, G: Gate + Sync, S: Source, O: Sink>(
     rt: &R,
-    terms: Terms,
-    gate: &G,
+    engine: &Engine<'_, G>,
     asked: &Query,
-    workers: Workers,
     source: &mut S,
     out: &mut O,
 ) -> Result<JobEnd, JobFault>
@@ -96,11 +80,12 @@ where
     R: Threads + Wait + Sync + AllocGlobal,
     requires source { CanBeUsed (S.state source.old) }
     requires out { CanBeUsed (O.state out.old) }
-    ensures { QueryEnds asked.now terms.strict result
+    ensures { QueryEnds asked.now engine.now.terms.strict result
         (devices (S.state source.old) (O.state out.old))
         (devices (S.state source.new) (O.state out.new)) }
 {
-    let settings = terms.settings(workers_for(rt, asked, workers));
+    let Engine { terms, gate, .. } = *engine;
+    let settings = engine.settings();
     match ask(
         rt,
         rt.alloc(),

@@ -7,7 +7,8 @@ ghost use Rattle.bk_jobs.specs.Openings.{RanSo};
 ghost use Rattle.bk_jobs.specs.Sources.{CanBeUsedAgain, job_devices};
 
 use crate::answering::answer;
-use crate::job_end::{JobEnd, Terms};
+use crate::job_end::{Engine, JobEnd, Terms};
+use crate::machine::workers_of;
 use bk_cli::{Exit, Job, JobFault, judge, tell, tell_remarks};
 use bk_frames::{Sink, Source};
 use bk_order::HashKey;
@@ -123,11 +124,15 @@ where
         (job_devices (S1.state first.new) (S2.state second.new) (O.state out.new))
         (E.state err.old) (E.state err.new) }
 {
-    let terms = Terms {
-        strict: watch.strict,
-        key: watch.key,
+    let engine = Engine {
+        terms: Terms {
+            strict: watch.strict,
+            key: watch.key,
+        },
+        workers: workers_of(rt, job),
+        gate: watch.watcher,
     };
-    let found = answer(rt, job, terms, watch.watcher, first, second, out);
+    let found = answer(rt, job, &engine, first, second, out);
     watch.watcher.ended();
     say(job, watch.verbose, &found, err);
     end_last(watch.strict, &found, err)
