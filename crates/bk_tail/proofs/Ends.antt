@@ -6,10 +6,11 @@ use Rattle.bk_answer.specs.Flaws.{IsFlawIf, judged_text}
 use Rattle.bk_answer.specs.declared.strict.Ended.{Ended}
 use Rattle.bk_results.specs.declared.flaw.Flaw.{Flaw}
 use Rattle.bk_answer.specs.RunReport.{reach_of}
-use Rattle.bk_frames.specs.Device.{Fails, IsWhole, Works}
+use Rattle.bk_frames.specs.Device.{IsWhole, Receives}
+use Rattle.bk_frames.specs.Writing.{StopsWriting, Writes}
+use Rattle.bk_frames.specs.declared.writing.WriteFault.{WriteFault}
 use Rattle.bk_order.specs.Orders.{Ordered}
-use Rattle.bk_report.specs.Pages.{PageValue, Puts, Stops, blank}
-use Rattle.bk_report.proofs.Putting.{all_out, puts_then}
+use Rattle.bk_report.specs.Pages.{PageValue}
 use Rattle.bk_follow.specs.Follower.{BookValue, IsSettled}
 use Rattle.bk_follow.specs.Queries.{missing_in}
 use Rattle.std.proofs.KnownBytes.{Appends-nil}
@@ -25,7 +26,7 @@ use Rattle.bk_follow.specs.Follower.{Followed}
 use Rattle.bk_tx.specs.Batches.{transactions_of}
 use Rattle.bk_tail.specs.Tailing.{TableBefore, TableSoFar, TailFailsBy}
 use Rattle.bk_tables.specs.Kinds.{IsTextOf, TableKind}
-use Rattle.bk_tail.specs.private.Putting.{HasPut, PutFails, PutNot, TableUpTo}
+use Rattle.bk_tail.specs.private.Putting.{HasTable, PutFails, PutNot, TableUpTo}
 use Rattle.bk_tail.specs.private.Steps.{AdvanceFails, GaveAfter, HasFollowed, IsWholeFeed}
 use Rattle.bk_tail.proofs.Growing.{IsBookAt, book_at, put_stops}
 use Rattle.bk_tail.proofs.Places.{before_longer, out_before, out_so_far, so_far_longer}
@@ -73,12 +74,12 @@ abbrev pub ended_with : Status → Option Flaw → Ended Status
 ended_with end flaw = record { end = end; flaw = flaw }
 
 -- memory ran out where all rows are out but the header
-pub no_flaw : (k : TableKind) (start now first sink : Device) (f : Fault) (all : List ℕ) (whole : List Frame) (v : Followed) (page : PageValue) (done : Ordered) → f ≡ fault.Memory → HasFollowed start now all whole v → HasPut k all whole v.cut.version first sink page done
+pub no_flaw : (k : TableKind) (start now first sink : Device) (f : Fault) (all : List ℕ) (whole : List Frame) (v : Followed) (page : PageValue) (done : Ordered) → f ≡ fault.Memory → HasFollowed start now all whole v → HasTable k all whole v.cut.version first sink page done
     → TailFailsBy k.text f (devices start first) (devices now sink)
 no_flaw k start now first sink f all whole v page done is h p = subst (λ (g : Fault). TailFailsBy k.text g (devices start first) (devices now sink)) (sym is) (h.works, (all, h.gave, out_so_far k.text first sink (length (transactions_of done.payloads.list)) all p.so_far))
 
 module _ (k : TableKind) (is_text : IsTextOf k) (start now first sink : Device) (all : List ℕ) (whole : List Frame) (v : Followed) (page : PageValue) (done : Ordered)
-    (f : HasFollowed start now all whole v) (settled : IsSettled whole v) (w : IsWholeFeed all whole v) (h : HasPut k all whole v.cut.version first sink page done) (last : IfSome v.book (λ b. done ≡ b.taken.ordered)) where
+    (f : HasFollowed start now all whole v) (settled : IsSettled whole v) (w : IsWholeFeed all whole v) (h : HasTable k all whole v.cut.version first sink page done) (last : IfSome v.book (λ b. done ≡ b.taken.ordered)) where
   at : IsBookAt all whole v w.holds.0
   at = book_at all whole v w.holds.0 f.come settled w.holds.1
 
@@ -89,23 +90,23 @@ module _ (k : TableKind) (is_text : IsTextOf k) (start now first sink : Device) 
   nothing_grows = ap (λ (o : Ordered). k.rows at.version (genesis_of whole) o.payloads.list) (sym done_is) ∙ sym (append-nil (k.rows at.version (genesis_of whole) done.payloads.list))
 
   -- the header did not go out
-  pub end_fails : (later : Device) (written : ℕ) → Fails sink later × Stops sink later page [] written → PutFails k written all first later
-  end_fails later written stop = put_stops k all whole v w.holds.0 first sink page done f.come at h [] nothing_grows (is_text (feed_of at.version whole) w.holds.0.taken.ordered at.current.clear at.current.ordered) later written stop
+  pub end_fails : (later : Device) (e : WriteFault) → StopsWriting e (k.header ++ h.shown) first later → PutFails k e.written all first later
+  end_fails later e stop = put_stops k all whole v w.holds.0 first sink page done f.come at h [] nothing_grows (is_text (feed_of at.version whole) w.holds.0.taken.ordered at.current.clear at.current.ordered) later e
+      (subst (λ (t : List ℕ). StopsWriting e t first later) (sym (append-nil (k.header ++ h.shown))) stop)
 
   -- all is out
-  pub answered : (strict : Bool) (flaw : Option Flaw) (later : Device) (after : PageValue) → IsWhole start now all → Works sink later × Puts sink later page after [] → after.bytes ≡ [] → IsFlawIf strict (feed_of w.version whole) flaw
+  pub answered : (strict : Bool) (flaw : Option Flaw) (later : Device) → IsWhole start now all → Writes (k.header ++ h.shown) first later → IsFlawIf strict (feed_of w.version whole) flaw
       → IsAnswered (judged_text strict k.text) (ended_with (reach_of (missing_in v.book)) flaw) (devices start first) (devices now later)
-  answered strict flaw later after known put empty flawed =
+  answered strict flaw later known (works, out) flawed =
       let o = w.holds.0.taken.ordered in
       let feed = feed_of w.version whole in
       let text = k.header ++ k.rows w.version (genesis_of whole) o.payloads.list in
       let shown : k.header ++ h.shown ≡ text = ap (λ (t : List ℕ). k.header ++ t) ((h.many w.version w.known w.good.opened).shown_is ∙ ap (λ (x : Ordered). k.rows w.version (genesis_of whole) x.payloads.list) done_is) in
-      let puts : Puts first later blank after text = subst (λ (t : List ℕ). Puts first later blank after t) (append-nil (k.header ++ h.shown) ∙ shown) (puts_then first sink later blank page after (k.header ++ h.shown) [] h.puts put.1) in
       let end : reach_of o.payloads.missing ≡ reach_of (missing_in v.book) = ap (λ (b : Option BookValue). reach_of (missing_in b)) (sym w.holds.1) in
       subst (λ (e : Status). IsAnswered (judged_text strict k.text) (ended_with e flaw) (devices start first) (devices now later)) end (record {
         source = f.works;
-        sink = put.0 ∙ h.so_far.0;
-        out = (all, f.gave, known, (text, record { feed = feed; good = w.good; spelled = w.spelled; holds = (is_text feed o w.holds.2.clear w.holds.2.ordered, flawed) }, all_out first later after text puts empty));
+        sink = works;
+        out = (all, f.gave, known, (text, record { feed = feed; good = w.good; spelled = w.spelled; holds = (is_text feed o w.holds.2.clear w.holds.2.ordered, flawed) }, subst (Receives first later) shown out));
       })
 
 -- memory ran out before the first byte

@@ -1,27 +1,30 @@
 -- A table that is put while its feed is followed: more comes, more is put, and why it is not.
-use Rattle.std.proofs.Common.{◌≡◌, ◌⊎◌, inl, inr, ◌∙◌, ℕ, ◌+◌, ◌<◌, ◌≤◌, List, [], ◌∷◌, ◌++◌, length, Option, Some, refl, sym, ap, subst, append_assoc, append-nil, length-append, arith}
+use Rattle.std.proofs.Common.{◌≡◌, ◌⊎◌, inl, inr, ◌∙◌, ℕ, ◌+◌, ◌*◌, ◌<◌, ◌≤◌, List, [], ◌∷◌, ◌++◌, length, Option, Some, refl, sym, ap, subst, append_assoc, append-nil, length-append, arith}
 use Rattle.std.proofs.KnownBytes.{Appends-nil}
 use Rattle.std.proofs.lemmas.List.Elements.{Contains-append_left}
 use Rattle.bk_base.specs.declared.genesis.Row.{Row}
 use Rattle.bk_base.specs.declared.version.Version.{Version}
 use Rattle.bk_base.specs.Feed.{Frame, FeedValue, IsFeed, feed_of, genesis_of, spelling}
 use Rattle.bk_commit.specs.Growth.{IsPrefix}
-use Rattle.bk_frames.specs.Device.{Device, Fails, Receives, Works}
+use Rattle.bk_frames.specs.Device.{Device, Receives, Works}
+use Rattle.bk_frames.specs.Writing.{StopsWriting}
+use Rattle.bk_frames.specs.declared.writing.WriteFault.{WriteFault}
 use Rattle.bk_frames.proofs.CutJoining.{bytes_so_far}
 use Rattle.bk_order.specs.Intake.{nothing_ordered}
 use Rattle.bk_order.specs.Orders.{Ordered}
 use Rattle.bk_order.proofs.Ordering.{none_ordered}
 use Rattle.bk_order.proofs.Sets.{frames_grow}
-use Rattle.bk_report.specs.Pages.{PageValue, Puts, Stops, blank}
-use Rattle.bk_report.proofs.Putting.{all_out, part_out, part_size, puts_then, stops_then}
+use Rattle.bk_report.specs.Pages.{HasPut, PageValue, Puts, desk}
 use Rattle.bk_results.specs.declared.status.Status.{Status}
 use Rattle.bk_answer.specs.RunReport.{committee_in, later_frames, reach_of}
 use Rattle.bk_follow.specs.Follower.{BookValue, Followed, HasCome, IsCurrent, IsSettled, IsSettledBy, OrdersPart}
 use Rattle.bk_follow.proofs.Books.{whole_part}
 use Rattle.bk_follow.proofs.Following.{good_of}
 use Rattle.bk_tx.specs.Batches.{transactions_of}
+use Rattle.bk_tables.specs.Growing.{none_shown}
 use Rattle.bk_tables.specs.Kinds.{AboutAccounts, TableKind}
-use Rattle.bk_tail.specs.private.Putting.{HasPut, IsPartDone, PutFails, TableUpTo}
+use Rattle.bk_tables.proofs.WholeTables.{header_put}
+use Rattle.bk_tail.specs.private.Putting.{HasTable, IsPartDone, PutFails, TableUpTo}
 use Rattle.bk_tail.proofs.Places.{below_order, up_to_longer}
 use Rattle.bk_tail.proofs.OneVersion.{known_before}
 
@@ -52,22 +55,24 @@ module _ (k : TableKind) (none_rows : (version : Version) (genesis : List Row) �
   many_on (f ∷ g ∷ rest) next version done shown few many = part_on f g rest next version done shown (many (omega arith))
 
   pub put_longer : (bytes all : List ℕ) (frames whole : List Frame) (v w : Followed) (first now : Device) (page : PageValue) (done : Ordered) → IsPrefix bytes all → IsPrefix frames whole → HasCome bytes frames v → HasCome all whole w
-      → HasPut k bytes frames v.cut.version first now page done → HasPut k all whole w.cut.version first now page done
+      → HasTable k bytes frames v.cut.version first now page done → HasTable k all whole w.cut.version first now page done
   put_longer bytes all frames whole v w first now page done longer more come then h = record {
     shown = h.shown;
     so_far = up_to_longer k.text first now (length (transactions_of done.payloads.list)) bytes all longer h.so_far;
-    puts = h.puts;
+    put = h.put;
+    short = h.short;
     few = λ short. h.few (let n = ap length more.1 in let m = length-append frames more.0 in omega (arith, n, m, short));
     many = λ version known two. subst (λ (fs : List Frame). IsPartDone k fs version done h.shown) (sym more.1)
         (many_on frames more.0 version done h.shown h.few (λ two. h.many version (known_before bytes all frames whole v.cut w.cut version longer come.cuts then.cuts two known) two));
   }
 
   -- before the first byte: the header waits
-  pub none_put : (v : Followed) (first : Device) (page : PageValue) → page ≡ record { out = 0; bytes = k.header } → HasPut k [] [] v.cut.version first first page nothing_ordered
-  none_put v first page is = record {
+  pub none_put : (v : Followed) (first : Device) → HasTable k [] [] v.cut.version first first (none_shown k.header).page nothing_ordered
+  none_put v first = record {
     shown = [];
     so_far = (refl, inl (Appends-nil first.bytes));
-    puts = subst (λ (p : PageValue). Puts first first blank p (k.header ++ [])) (sym is) (record { pushed = []; gave = Appends-nil first.bytes; kept = append-nil k.header; out = refl });
+    put = subst (HasPut first (desk (none_shown k.header).page first)) (sym (append-nil k.header)) (header_put first k.header (none_shown k.header) refl);
+    short = omega arith;
     few = λ _. (refl, refl);
     many = λ version known two. absurd (omega (arith, two));
   }
@@ -96,7 +101,7 @@ book_at bytes frames v b come settled is =
 pub same_version : (o : Option Version) (v w : Version) → o ≡ Some v → o ≡ Some w → v ≡ w
 same_version o v w e f = cc
 
-module _ (k : TableKind) (bytes : List ℕ) (frames : List Frame) (v : Followed) (b : BookValue) (first now : Device) (page : PageValue) (done : Ordered) (come : HasCome bytes frames v) (at : IsBookAt bytes frames v b) (h : HasPut k bytes frames v.cut.version first now page done) where
+module _ (k : TableKind) (bytes : List ℕ) (frames : List Frame) (v : Followed) (b : BookValue) (first now : Device) (page : PageValue) (done : Ordered) (come : HasCome bytes frames v) (at : IsBookAt bytes frames v b) (h : HasTable k bytes frames v.cut.version first now page done) where
   abbrev feed : FeedValue
   feed = feed_of at.version frames
 
@@ -121,35 +126,34 @@ module _ (k : TableKind) (bytes : List ℕ) (frames : List Frame) (v : Followed)
     all_text : (k.header ++ h.shown) ++ more ≡ k.header ++ rows_of payloads
     all_text = append_assoc k.header h.shown more ∙ ap (λ (t : List ℕ). k.header ++ t) (ap (λ (t : List ℕ). t ++ more) part_done.shown_is ∙ sym grows)
 
-    out_so_far : (later : Device) (after : PageValue) → Works first later → Puts first later blank after (k.header ++ rows_of payloads) → (after.bytes ≡ []) ⊎ (after.out ≡ 0) → TableUpTo k.text (length (transactions_of payloads)) first later bytes
-    out_so_far later after works puts (inl empty) = (works, inr (feed, (at.good, at.begins), below_order feed b.taken.ordered at.current.clear at.current.ordered, end, (k.header ++ rows_of payloads, is_text, all_out first later after (k.header ++ rows_of payloads) puts empty)))
-    out_so_far later after works puts (inr none) = (works, inl (subst (Receives first later) (nothing_pushed puts.pushed (omega (arith, none, puts.out))) puts.gave))
-      where
-        nothing_pushed : (pushed : List ℕ) → length pushed ≡ 0 → pushed ≡ []
-        nothing_pushed [] e = refl
-        nothing_pushed (c ∷ cs) e = absurd (omega (arith, e))
+    out_so_far : (later : Device) → Works first later × (Receives first later [] ⊎ Receives first later ((k.header ++ h.shown) ++ more)) → TableUpTo k.text (length (transactions_of payloads)) first later bytes
+    out_so_far later (works, inl none) = (works, inl none)
+    out_so_far later (works, inr out) = (works, inr (feed, (at.good, at.begins), below_order feed b.taken.ordered at.current.clear at.current.ordered, end, (k.header ++ rows_of payloads, is_text, subst (Receives first later) all_text out)))
 
     -- more rows are put
-    pub put_more : (later : Device) (after : PageValue) → Works now later × Puts now later page after more → (after.bytes ≡ []) ⊎ (after.out ≡ 0) → HasPut k bytes frames v.cut.version first later after b.taken.ordered
-    put_more later after put out =
-        let puts = subst (λ (t : List ℕ). Puts first later blank after t) all_text (puts_then first now later blank page after (k.header ++ h.shown) more h.puts put.1) in
-        record {
-          shown = rows_of payloads;
-          so_far = out_so_far later after (put.0 ∙ h.so_far.0) puts out;
-          puts = puts;
-          few = λ few. absurd (let two = at.good.opened in omega (arith, few, two));
-          many = λ version known two.
-              subst (λ (x : Version). IsPartDone k frames x b.taken.ordered (rows_of payloads)) (same_version v.cut.version at.version version at.known known)
-              (record { part = whole_part feed b.taken.ordered at.current.ordered; shown_is = refl });
-        }
+    pub put_more : (later : Device) (after : PageValue) → Puts (desk page now) (desk after later) (length more) more → length more + 1800 * length (transactions_of done.payloads.list) ≤ 1800 * length (transactions_of payloads)
+        → Works first later × (Receives first later [] ⊎ Receives first later ((k.header ++ h.shown) ++ more)) → HasTable k bytes frames v.cut.version first later after b.taken.ordered
+    put_more later after puts few out = record {
+      shown = rows_of payloads;
+      so_far = out_so_far later out;
+      put = subst (HasPut first (desk after later)) all_text (puts.put first (k.header ++ h.shown) h.put);
+      short =
+          let all = ap length grows in
+          let two = length-append (rows_of done.payloads.list) more in
+          let shown = ap length part_done.shown_is in
+          let before = h.short in
+          omega (arith, all, two, shown, before, few);
+      few = λ few. absurd (let two = at.good.opened in omega (arith, few, two));
+      many = λ version known two.
+          subst (λ (x : Version). IsPartDone k frames x b.taken.ordered (rows_of payloads)) (same_version v.cut.version at.version version at.known known)
+          (record { part = whole_part feed b.taken.ordered at.current.ordered; shown_is = refl });
+    }
 
     -- the sink failed
-    pub put_stops : (later : Device) (written : ℕ) → Fails now later × Stops now later page more written → PutFails k written bytes first later
-    put_stops later written stop =
-        let s = subst (λ (t : List ℕ). Stops first later blank t written) all_text (stops_then first now later blank page (k.header ++ h.shown) more written h.puts stop.1) in (
-          stop.0 ∙ ap (λ (n : ℕ). n + 1) h.so_far.0,
-          (feed, (v.cut, come.cuts, come.is_open, at.known), (end, (k.header ++ rows_of payloads, is_text, part_size first later (k.header ++ rows_of payloads) written s, part_out first later (k.header ++ rows_of payloads) written s))),
-        )
+    pub put_stops : (later : Device) (e : WriteFault) → StopsWriting e ((k.header ++ h.shown) ++ more) first later → PutFails k e.written bytes first later
+    put_stops later e stop =
+        let s = subst (λ (t : List ℕ). StopsWriting e t first later) all_text stop in
+        (s.fails, (feed, (v.cut, come.cuts, come.is_open, at.known), (end, (k.header ++ rows_of payloads, is_text, s.short, s.out))))
 
 -- ---- what rows say of the accounts, where more frames come
 

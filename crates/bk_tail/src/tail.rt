@@ -13,7 +13,7 @@ ghost use Rattle.bk_order.specs.Orders.{Ordered};
 ghost use Rattle.bk_results.specs.Devices.{devices};
 ghost use Rattle.bk_tables.specs.Growing.{none_shown};
 ghost use Rattle.bk_tail.specs.Tailing.{EndsAsAsked, TailFailsBy};
-ghost use Rattle.bk_tail.specs.private.Putting.{IsPutOn, PutNot};
+ghost use Rattle.bk_tail.specs.private.Putting.{IsPutOn, PutNot, WherePut};
 
 use crate::piece::{advance, reach};
 use bk_answer::Ended;
@@ -40,18 +40,14 @@ fn put_new<T: TableRows, K: Sink>(
         × HasCome bytes frames follower.now × IsSettled frames follower.now
         × IsPutOn (T.kind accounts.now) bytes frames follower.now
         first (K.state sink.old) (T.shown rows.old) (T.holds rows.old) done }
-    ensures put { OnOk result ((bytes : List ℕ) (frames : List Frame) (first : Device) (done : Ordered)
-        → HasCome bytes frames follower.now → IsSettled frames follower.now
-        → IsPutOn (T.kind accounts.now) bytes frames follower.now
-        first (K.state sink.old) (T.shown rows.old) (T.holds rows.old) done
-        → (now : Ordered) × IsPutOn (T.kind accounts.now) bytes frames follower.now
+    ensures put { OnOk result (WherePut (T.kind accounts.now) follower.now
+        (K.state sink.old) (T.shown rows.old) (T.holds rows.old)
+        (λ bytes frames first. (now : Ordered) × IsPutOn (T.kind accounts.now) bytes frames follower.now
         first (K.state sink.new) (T.shown rows.new) (T.holds rows.new) now
-        × IfSome follower.now.book (λ b. now ≡ b.taken.ordered)) }
-    ensures fault { IfErr result (λ f. (bytes : List ℕ) (frames : List Frame) (first : Device) (done : Ordered)
-        → HasCome bytes frames follower.now → IsSettled frames follower.now
-        → IsPutOn (T.kind accounts.now) bytes frames follower.now
-        first (K.state sink.old) (T.shown rows.old) (T.holds rows.old) done
-        → PutNot (T.kind accounts.now) f bytes first (K.state sink.new)) }
+        × IfSome follower.now.book (λ b. now ≡ b.taken.ordered))) }
+    ensures fault { IfErr result (λ f. WherePut (T.kind accounts.now) follower.now
+        (K.state sink.old) (T.shown rows.old) (T.holds rows.old)
+        (λ bytes frames first. PutNot (T.kind accounts.now) f bytes first (K.state sink.new))) }
 {
     match follower.closed() {
         Some(closed) => rows.put_more(alloc, sink, accounts, &closed),

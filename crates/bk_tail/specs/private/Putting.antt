@@ -1,5 +1,5 @@
 -- A table that is put while its feed is followed.
-use Rattle.std.specs.Prelude.{◌≡◌, ◌⊎◌, ◌<◌, ◌≤◌, ◌^◌, ℕ, List, [], ◌++◌, length, Option, Some}
+use Rattle.std.specs.Prelude.{◌≡◌, ◌⊎◌, ◌<◌, ◌≤◌, ◌*◌, ◌^◌, ℕ, List, [], ◌++◌, length, Option, Some}
 use Rattle.bk_answer.specs.Answers.{TextIsOut}
 use Rattle.bk_answer.specs.RunReport.{HasPlaceIn}
 use Rattle.bk_base.specs.Feed.{Frame, FeedValue, feed_of, genesis_of}
@@ -8,11 +8,11 @@ use Rattle.bk_base.specs.declared.version.Version.{Version}
 use Rattle.bk_frames.specs.Device.{Device, Fails, Receives, Works}
 use Rattle.bk_order.specs.Intake.{nothing_ordered}
 use Rattle.bk_order.specs.Orders.{Ordered}
-use Rattle.bk_report.specs.Pages.{PageValue, Puts, blank}
+use Rattle.bk_report.specs.Pages.{HasPut, PageValue, desk}
 use Rattle.bk_results.specs.declared.fault.Fault.{Fault}
 use Rattle.bk_results.specs.declared.fault.Fault.TheVariants as fault
 use Rattle.bk_results.specs.declared.status.Status.{Status}
-use Rattle.bk_follow.specs.Follower.{Followed, OrdersPart}
+use Rattle.bk_follow.specs.Follower.{Followed, HasCome, IsSettled, OrdersPart}
 use Rattle.bk_tables.specs.Growing.{Shown, ShowsAll}
 use Rattle.bk_tables.specs.Kinds.{AboutAccounts, TableKind}
 use Rattle.bk_tail.specs.Tailing.{FeedBegins, OfWholeFrames, TableSoFar, TableStops}
@@ -34,12 +34,14 @@ TableUpTo text count old new bytes =
     × (end : Status) × TextIsOut (text feed end) old new))
 
 -- of these frames the table of an order was put: of nothing before the genesis is whole, and then of a part of them. What
--- is out is nothing, or the whole table of a feed that begins the bytes, with no place that the order has not
-pub record HasPut (k : TableKind) (bytes : List ℕ) (frames : List Frame) (known : Option Version) (first now : Device)
+-- is out is nothing, or the whole table of a feed that begins the bytes, with no place that the order has not. The rows of a
+-- place have at most 1800 bytes
+pub record HasTable (k : TableKind) (bytes : List ℕ) (frames : List Frame) (known : Option Version) (first now : Device)
     (page : PageValue) (done : Ordered) : Type 0 where
   pub shown : List ℕ
   pub so_far : TableUpTo k.text (length (transactions_of done.payloads.list)) first now bytes
-  pub puts : Puts first now blank page (k.header ++ shown)
+  pub put : HasPut first (desk page now) (k.header ++ shown)
+  pub short : length shown ≤ 1800 * length (transactions_of done.payloads.list)
   pub few : length frames < 2 → (done ≡ nothing_ordered) × (shown ≡ [])
   pub many : (version : Version) → known ≡ Some version → 2 ≤ length frames → IsPartDone k frames version done shown
 
@@ -47,8 +49,8 @@ pub record HasPut (k : TableKind) (bytes : List ℕ) (frames : List Frame) (know
 -- batches of this order
 pub record IsPutOn (k : TableKind) (bytes : List ℕ) (frames : List Frame) (v : Followed) (first now : Device) (rows : Shown)
     (holds : AboutAccounts) (done : Ordered) : Type 0 where
-  pub put : HasPut k bytes frames v.cut.version first now rows.page done
-  pub shows : ShowsAll k.most done.payloads.list rows
+  pub table : HasTable k bytes frames v.cut.version first now rows.page done
+  pub shows : ShowsAll done.payloads.list rows
   pub few : rows.place < 2 ^ 32
   pub before : length frames < 2 → (version : Version) (genesis : List Row) → holds version genesis []
   pub after : (version : Version) → v.cut.version ≡ Some version → 2 ≤ length frames
@@ -64,3 +66,9 @@ abbrev pub PutNot : TableKind → Fault → List ℕ → Device → Device → T
 PutNot k (fault.Write written) bytes first now = PutFails k written bytes first now
 PutNot k fault.Memory bytes first now = TableSoFar k.text first now bytes
 PutNot k other bytes first now = ⊥
+
+-- this is said where all of these frames are settled, and the table of an order is put
+abbrev pub WherePut : TableKind → Followed → Device → Shown → AboutAccounts → (List ℕ → List Frame → Device → Type 0) → Type 0
+WherePut k v now rows holds says =
+    (bytes : List ℕ) (frames : List Frame) (first : Device) (done : Ordered) → HasCome bytes frames v → IsSettled frames v
+    → IsPutOn k bytes frames v first now rows holds done → says bytes frames first

@@ -1,4 +1,4 @@
-use Rattle.std.proofs.Common.{◌≡◌, Bool, true, false, [], length, refl, sym, subst, arith}
+use Rattle.std.proofs.Common.{◌≡◌, Bool, true, false, [], ◌++◌, length, refl, sym, subst, arith}
 use Rattle.std.proofs.lemmas.Result.{err_from_is_err_and}
 use Rattle.bk_answer.specs.Answers.{IsAnswered}
 use Rattle.bk_answer.specs.Flaws.{judged_text}
@@ -15,8 +15,7 @@ use Rattle.bk_tx.specs.Batches.{transactions_of}
 use Rattle.bk_follow.specs.Follower.{receipts_in}
 use Rattle.bk_tail.proofs.Executed.{done_executed}
 use Rattle.bk_tail.proofs.Flawed.{whole_order}
-use Rattle.bk_tables.proofs.WholeTables.{few_bytes}
-use Rattle.bk_tail.proofs.Step.{none_put_on, put_on}
+use Rattle.bk_tail.proofs.Step.{none_put_on, put_on, table_short}
 use Rattle.bk_tail.proofs.Pieces.{none_followed}
 use Rattle.bk_tail.proofs.tail.tail_rows.Goals as goal
 
@@ -40,7 +39,7 @@ pieces-init g c = record {
   frames = [];
   done = nothing_ordered;
   followed = none_followed (g.S.Source.state c.args.source.now) c.args.follower.now c.requires.first;
-  put = none_put_on (g.T.TableRows.kind c.args.accounts.now) (g.met.T.TableRows.no_rows c.args.accounts.now) c.args.follower.now (g.K.Sink.state c.args.sink.now) (g.T.TableRows.shown c.args.rows.now) (g.T.TableRows.holds c.args.rows.now) (g.met.T.TableRows.short c.args.accounts.now).0 c.requires.none c.requires.before;
+  put = none_put_on (g.T.TableRows.kind c.args.accounts.now) (g.met.T.TableRows.no_rows c.args.accounts.now) c.args.follower.now (g.K.Sink.state c.args.sink.now) (g.T.TableRows.shown c.args.rows.now) (g.T.TableRows.holds c.args.rows.now) c.requires.none c.requires.before;
   shown = let zero : length (transactions_of nothing_ordered.payloads.list) ≡ 0 = refl in omega (arith, zero);
   goes_on = λ _. ends_not_yet (g.S.Source.state c.args.source.now);
   source = c.requires.source;
@@ -54,7 +53,7 @@ returns-in_err-ended-clause-fault g c =
     let p = err_from_is_err_and c.from_residual.result c.from_residual.ensures.1 in
     let i = c.pieces.invariant in
     rw (p.1, p.2) (advance_fails (g.T.TableRows.kind c.args.accounts.now) (g.S.Source.state c.args.source.now) (g.S.Source.state c.advance.new.source) (g.K.Sink.state c.args.sink.now) (g.K.Sink.state c.pieces.sink) i.bytes
-    (length (transactions_of i.done.payloads.list)) (length (receipts_in c.pieces.follower.book)) i.shown i.put.put.so_far _
+    (length (transactions_of i.done.payloads.list)) (length (receipts_in c.pieces.follower.book)) i.shown i.put.table.so_far _
     (c.in_err-ended.ensures.fault (g.S.Source.state c.args.source.now) i.bytes i.frames i.followed i.goes_on))
 
 pub put_new-requires-clause-put : goal.put_new-requires-clause-put
@@ -97,28 +96,18 @@ returns-in_err-flaw-clause-fault g c =
     let on = put_on (g.T.TableRows.kind c.args.accounts.now) (g.met.T.TableRows.no_rows c.args.accounts.now) i.bytes a.all i.frames a.whole c.pieces.follower c.advance.new.follower first (g.K.Sink.state c.pieces.sink) (g.T.TableRows.shown c.pieces.rows) (g.T.TableRows.holds c.pieces.rows) i.done a.longer a.more i.followed.come a.followed.come i.put in
     let n = c.in_ok-put_new.ensures.put a.all a.whole first i.done a.followed.come a.settled on in
     let p = err_from_is_err_and c.from_residual-in_err-flaw.result c.from_residual-in_err-flaw.ensures.1 in
-    rw (p.1, p.2) (no_flaw (g.T.TableRows.kind c.args.accounts.now) start (g.S.Source.state c.advance.new.source) first (g.K.Sink.state c.put_new.new.sink) _ a.all a.whole c.advance.new.follower (g.T.TableRows.shown c.put_new.new.rows).page n.0 refl a.followed n.1.put)
+    rw (p.1, p.2) (no_flaw (g.T.TableRows.kind c.args.accounts.now) start (g.S.Source.state c.advance.new.source) first (g.K.Sink.state c.put_new.new.sink) _ a.all a.whole c.advance.new.follower (g.T.TableRows.shown c.put_new.new.rows).page n.0 refl a.followed n.1.table)
 
-pub put_end-requires-clause-sound : goal.put_end-requires-clause-sound
-put_end-requires-clause-sound g c =
+pub put_end-requires : goal.put_end-requires
+put_end-requires g c =
     let i = c.pieces.invariant in
     let start = g.S.Source.state c.args.source.now in
     let first = g.K.Sink.state c.args.sink.now in
     let a = c.in_ok-ended.ensures.next start i.bytes i.frames i.followed in
     let on = put_on (g.T.TableRows.kind c.args.accounts.now) (g.met.T.TableRows.no_rows c.args.accounts.now) i.bytes a.all i.frames a.whole c.pieces.follower c.advance.new.follower first (g.K.Sink.state c.pieces.sink) (g.T.TableRows.shown c.pieces.rows) (g.T.TableRows.holds c.pieces.rows) i.done a.longer a.more i.followed.come a.followed.come i.put in
     let n = c.in_ok-put_new.ensures.put a.all a.whole first i.done a.followed.come a.settled on in
-    let wrote = n.1.put.so_far.0 in
-    omega (arith, wrote, c.requires.sink)
-
-pub put_end-requires-clause-size : goal.put_end-requires-clause-size
-put_end-requires-clause-size g c =
-    let i = c.pieces.invariant in
-    let start = g.S.Source.state c.args.source.now in
-    let first = g.K.Sink.state c.args.sink.now in
-    let a = c.in_ok-ended.ensures.next start i.bytes i.frames i.followed in
-    let on = put_on (g.T.TableRows.kind c.args.accounts.now) (g.met.T.TableRows.no_rows c.args.accounts.now) i.bytes a.all i.frames a.whole c.pieces.follower c.advance.new.follower first (g.K.Sink.state c.pieces.sink) (g.T.TableRows.shown c.pieces.rows) (g.T.TableRows.holds c.pieces.rows) i.done a.longer a.more i.followed.come a.followed.come i.put in
-    let n = c.in_ok-put_new.ensures.put a.all a.whole first i.done a.followed.come a.settled on in
-    few_bytes (g.T.TableRows.kind c.args.accounts.now).most (g.T.TableRows.shown c.put_new.new.rows).place _ (g.met.T.TableRows.short c.args.accounts.now).1 n.1.few n.1.shows.size
+    let wrote = n.1.table.so_far.0 in
+    λ _. omega (arith, wrote, c.requires.sink)
 
 pub returns-in_err-put_end-clause-fault : goal.returns-in_err-put_end-clause-fault
 returns-in_err-put_end-clause-fault g c =
@@ -136,7 +125,8 @@ returns-in_err-put_end-clause-fault g c =
     let n = c.in_ok-put_new.ensures.put a.all a.whole first i.done a.followed.come a.settled on in
     let e = a.ends c.if-ended.true in
     rw (p.1, p.2) (put_fails k start now first (g.K.Sink.state c.put_end.new.sink) _ _ a.all a.whole v refl a.followed
-    (end_fails k (g.met.T.TableRows.is_text ids) start now first sink a.all a.whole v (g.T.TableRows.shown c.put_new.new.rows).page n.0 a.followed a.settled e.1 n.1.put n.2 (g.K.Sink.state c.put_end.new.sink) _ c.in_err-put_end.ensures.written))
+    (end_fails k (g.met.T.TableRows.is_text ids) start now first sink a.all a.whole v (g.T.TableRows.shown c.put_new.new.rows).page n.0 a.followed a.settled e.1 n.1.table n.2 (g.K.Sink.state c.put_end.new.sink) c.in_err-put_end.field-0.0
+    (c.in_err-put_end.ensures first (k.header ++ n.1.table.shown) n.1.table.put (table_short k (g.met.T.TableRows.short ids) a.all a.whole v first sink (g.T.TableRows.shown c.put_new.new.rows) (g.T.TableRows.holds c.put_new.new.rows) n.0 n.1))))
 
 pub returns-then-ended-clause-answer : goal.returns-then-ended-clause-answer
 returns-then-ended-clause-answer g c =
@@ -155,9 +145,9 @@ returns-then-ended-clause-answer g c =
     let unwaited = not_waited c.args.waits c.in_ok-ended.ended c.if-ended.true c.in_ok-ended.ensures.goes_on in
     let flawed = c.in_ok-flaw.ensures (feed_of e.1.version a.whole) (whole_order a.all a.whole v e.1) in
     subst (λ (s : Status). IsAnswered (judged_text c.args.strict k.text) (ended_with s c.in_ok-flaw.flaw) (devices start first) (devices now (g.K.Sink.state c.put_end.new.sink))) (sym c.reach-end.ensures)
-    (answered k (g.met.T.TableRows.is_text ids) start now first sink a.all a.whole v (g.T.TableRows.shown c.put_new.new.rows).page n.0 a.followed a.settled e.1 n.1.put n.2
-    c.args.strict c.in_ok-flaw.flaw (g.K.Sink.state c.put_end.new.sink) (g.T.TableRows.shown c.put_end.new.self).page
-    (e.0, ends_then start (g.S.Source.state c.pieces.source) now (i.goes_on unwaited) (ends_if (g.S.Source.state c.pieces.source) now c.in_ok-ended.ended c.if-ended.true (c.in_ok-ended.ensures.ends unwaited))) c.in_ok-put_end.ensures.written c.in_ok-put_end.ensures.empty flawed)
+    (answered k (g.met.T.TableRows.is_text ids) start now first sink a.all a.whole v (g.T.TableRows.shown c.put_new.new.rows).page n.0 a.followed a.settled e.1 n.1.table n.2
+    c.args.strict c.in_ok-flaw.flaw (g.K.Sink.state c.put_end.new.sink)
+    (e.0, ends_then start (g.S.Source.state c.pieces.source) now (i.goes_on unwaited) (ends_if (g.S.Source.state c.pieces.source) now c.in_ok-ended.ended c.if-ended.true (c.in_ok-ended.ensures.ends unwaited))) (c.in_ok-put_end.ensures first (k.header ++ n.1.table.shown) n.1.table.put (table_short k (g.met.T.TableRows.short ids) a.all a.whole v first sink (g.T.TableRows.shown c.put_new.new.rows) (g.T.TableRows.holds c.put_new.new.rows) n.0 n.1)) flawed)
 
 pub pieces-preserved : goal.pieces-preserved
 pieces-preserved g c =
@@ -168,14 +158,14 @@ pieces-preserved g c =
     let on = put_on (g.T.TableRows.kind c.args.accounts.now) (g.met.T.TableRows.no_rows c.args.accounts.now) i.bytes a.all i.frames a.whole c.pieces.follower c.advance.new.follower first (g.K.Sink.state c.pieces.sink) (g.T.TableRows.shown c.pieces.rows) (g.T.TableRows.holds c.pieces.rows) i.done a.longer a.more i.followed.come a.followed.come i.put in
     let n = c.in_ok-put_new.ensures.put a.all a.whole first i.done a.followed.come a.settled on in
     let read = a.followed.works in
-    let wrote = n.1.put.so_far.0 in
+    let wrote = n.1.table.so_far.0 in
     record {
       bytes = a.all;
       frames = a.whole;
       done = n.0;
       followed = a.followed;
       put = n.1;
-      shown = done_executed a.all a.whole c.advance.new.follower n.0 a.followed.come a.settled (λ few. (n.1.put.few few).0) n.2;
+      shown = done_executed a.all a.whole c.advance.new.follower n.0 a.followed.come a.settled (λ few. (n.1.table.few few).0) n.2;
       goes_on = λ unwaited. ends_not_then start (g.S.Source.state c.pieces.source) (g.S.Source.state c.advance.new.source) (i.goes_on unwaited) (goes_on_if (g.S.Source.state c.pieces.source) (g.S.Source.state c.advance.new.source) c.in_ok-ended.ended c.if-ended.false (c.in_ok-ended.ensures.ends unwaited));
       source = omega (arith, read, c.requires.source);
       sink = omega (arith, wrote, c.requires.sink);
