@@ -10,7 +10,7 @@ use Rattle.bk_frames.specs.Device.{Device, Receives, Works}
 use Rattle.bk_frames.specs.Writing.{StopsWriting}
 use Rattle.bk_frames.specs.declared.writing.WriteFault.{WriteFault}
 use Rattle.bk_order.specs.Orders.{Ordered}
-use Rattle.bk_report.specs.Pages.{Desk, HasPut, Puts, Written, desk}
+use Rattle.bk_report.specs.Pages.{Desk, HasPut, Puts, desk}
 use Rattle.bk_results.specs.declared.fault.Fault.{Fault}
 use Rattle.bk_results.specs.declared.fault.Fault.TheVariants as fault
 use Rattle.bk_results.specs.declared.status.Status.{Status}

@@ -1,5 +1,5 @@
 -- The rows of the places that a settle executed.
-use Rattle.std.proofs.Common.{◌≡◌, ◌∙◌, ℕ, ◌+◌, ◌*◌, ◌^◌, ◌<◌, ◌≤◌, List, [], ◌++◌, length, take, Option, Some, None, refl, sym, ap, subst, length-append, arith}
+use Rattle.std.proofs.Common.{◌≡◌, ◌∙◌, ℕ, ◌+◌, ◌*◌, ◌^◌, ◌<◌, ◌≤◌, Bool, List, [], ◌++◌, length, take, Option, Some, None, refl, sym, ap, subst, length-append, arith}
 use Rattle.std.proofs.lemmas.List.{take_at}
 use Rattle.std.specs.Prelude.{IfErr, IfSome, OnOk, Result, Ok, Err}
 use Rattle.bk_base.specs.declared.genesis.Row.{Row}
@@ -23,6 +23,7 @@ use Rattle.bk_tables.proofs.WholeTables.{few_bytes}
 use Rattle.bk_tail.specs.Tailing.{TableSoFar}
 use Rattle.bk_tables.specs.Kinds.{AboutAccounts, IsMore, IsTextOf, MoreIsPut, PutsMore, TableKind, payloads_in}
 use Rattle.bk_tail.specs.private.Putting.{IsPutOn, PutNot, WherePut}
+use Rattle.bk_tail.specs.private.Steps.{Advanced}
 use Rattle.bk_tail.proofs.Growing.{IsBookAt, begins, book_at, holds_longer, none_put, put_longer, put_more, put_stops, same_version}
 use Rattle.bk_tail.proofs.OneVersion.{known_before}
 use Rattle.bk_tail.proofs.Places.{out_so_far}
@@ -168,3 +169,9 @@ module _ (k : TableKind) (no_rows : (version : Version) (genesis : List Row) →
     after = λ version known two. subst (λ (fs : List Frame). holds version (genesis_of fs) done.payloads.list) (sym more.1)
         (holds_longer k holds frames more.0 version done p.table.shown p.table.few p.before (λ two. p.after version (known_before bytes all frames whole v.cut w.cut version longer come.cuts then.cuts two known) two));
   }
+
+  -- what is said where it is put, of what a piece adds
+  pub where_put : {start source first now : Device} {bytes : List ℕ} {frames : List Frame} {v w : Followed} {ended : Bool} {rows : Shown} {holds : AboutAccounts} {done : Ordered} (says : List ℕ → List Frame → Device → Type 0)
+      → HasCome bytes frames v → (a : Advanced start source bytes frames w ended) → IsPutOn k bytes frames v first now rows holds done → WherePut k w now rows holds says → says a.all a.whole first
+  where_put {start} {source} {first} {now} {bytes} {frames} {v} {w} {ended} {rows} {holds} {done} says come a p put =
+      put a.all a.whole first done a.followed.come a.settled (put_on bytes a.all frames a.whole v w first now rows holds done a.longer a.more come a.followed.come p)

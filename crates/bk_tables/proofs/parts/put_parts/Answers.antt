@@ -1,9 +1,8 @@
-use Rattle.std.proofs.Common.{List, ap, refl, subst}
+use Rattle.std.proofs.Common.{List, ap, subst}
 use Rattle.std.specs.Option.{option_copied}
 use Rattle.bk_report.specs.Pages.{Puts, desk}
 use Rattle.bk_tables.specs.Postings.{postings_text}
 use Rattle.bk_tables.specs.declared.posting.Posting.{Posting}
-use Rattle.bk_tables.proofs.Done.{unchanged}
 use Rattle.bk_tables.proofs.PartAmounts.{place_rows}
 use Rattle.bk_tables.proofs.parts.put_parts.Goals as goal
 

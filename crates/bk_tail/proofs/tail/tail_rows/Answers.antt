@@ -15,7 +15,7 @@ use Rattle.bk_tx.specs.Batches.{transactions_of}
 use Rattle.bk_follow.specs.Follower.{receipts_in}
 use Rattle.bk_tail.proofs.Executed.{done_executed}
 use Rattle.bk_tail.proofs.Flawed.{whole_order}
-use Rattle.bk_tail.proofs.Step.{none_put_on, put_on, table_short}
+use Rattle.bk_tail.proofs.Step.{none_put_on, put_on, table_short, where_put}
 use Rattle.bk_tail.proofs.Pieces.{none_followed}
 use Rattle.bk_tail.proofs.tail.tail_rows.Goals as goal
 
@@ -76,9 +76,8 @@ returns-in_err-put_new-clause-fault g c =
     let start = g.S.Source.state c.args.source.now in
     let first = g.K.Sink.state c.args.sink.now in
     let a = c.in_ok-ended.ensures.next start i.bytes i.frames i.followed in
-    let on = put_on (g.T.TableRows.kind c.args.accounts.now) (g.met.T.TableRows.no_rows c.args.accounts.now) i.bytes a.all i.frames a.whole c.pieces.follower c.advance.new.follower first (g.K.Sink.state c.pieces.sink) (g.T.TableRows.shown c.pieces.rows) (g.T.TableRows.holds c.pieces.rows) i.done a.longer a.more i.followed.come a.followed.come i.put in
     rw (p.1, p.2) (put_not (g.T.TableRows.kind c.args.accounts.now) start (g.S.Source.state c.advance.new.source) first (g.K.Sink.state c.put_new.new.sink) _ a.all a.whole c.advance.new.follower a.followed
-    (c.in_err-put_new.ensures.fault a.all a.whole first i.done a.followed.come a.settled on))
+    (where_put (g.T.TableRows.kind c.args.accounts.now) (g.met.T.TableRows.no_rows c.args.accounts.now) _ i.followed.come a i.put c.in_err-put_new.ensures.fault))
 
 pub flaw_if-requires : goal.flaw_if-requires
 flaw_if-requires g c =
@@ -93,8 +92,7 @@ returns-in_err-flaw-clause-fault g c =
     let start = g.S.Source.state c.args.source.now in
     let first = g.K.Sink.state c.args.sink.now in
     let a = c.in_ok-ended.ensures.next start i.bytes i.frames i.followed in
-    let on = put_on (g.T.TableRows.kind c.args.accounts.now) (g.met.T.TableRows.no_rows c.args.accounts.now) i.bytes a.all i.frames a.whole c.pieces.follower c.advance.new.follower first (g.K.Sink.state c.pieces.sink) (g.T.TableRows.shown c.pieces.rows) (g.T.TableRows.holds c.pieces.rows) i.done a.longer a.more i.followed.come a.followed.come i.put in
-    let n = c.in_ok-put_new.ensures.put a.all a.whole first i.done a.followed.come a.settled on in
+    let n = where_put (g.T.TableRows.kind c.args.accounts.now) (g.met.T.TableRows.no_rows c.args.accounts.now) _ i.followed.come a i.put c.in_ok-put_new.ensures.put in
     let p = err_from_is_err_and c.from_residual-in_err-flaw.result c.from_residual-in_err-flaw.ensures.1 in
     rw (p.1, p.2) (no_flaw (g.T.TableRows.kind c.args.accounts.now) start (g.S.Source.state c.advance.new.source) first (g.K.Sink.state c.put_new.new.sink) _ a.all a.whole c.advance.new.follower (g.T.TableRows.shown c.put_new.new.rows).page n.0 refl a.followed n.1.table)
 
@@ -104,8 +102,7 @@ put_end-requires g c =
     let start = g.S.Source.state c.args.source.now in
     let first = g.K.Sink.state c.args.sink.now in
     let a = c.in_ok-ended.ensures.next start i.bytes i.frames i.followed in
-    let on = put_on (g.T.TableRows.kind c.args.accounts.now) (g.met.T.TableRows.no_rows c.args.accounts.now) i.bytes a.all i.frames a.whole c.pieces.follower c.advance.new.follower first (g.K.Sink.state c.pieces.sink) (g.T.TableRows.shown c.pieces.rows) (g.T.TableRows.holds c.pieces.rows) i.done a.longer a.more i.followed.come a.followed.come i.put in
-    let n = c.in_ok-put_new.ensures.put a.all a.whole first i.done a.followed.come a.settled on in
+    let n = where_put (g.T.TableRows.kind c.args.accounts.now) (g.met.T.TableRows.no_rows c.args.accounts.now) _ i.followed.come a i.put c.in_ok-put_new.ensures.put in
     let wrote = n.1.table.so_far.0 in
     λ _. omega (arith, wrote, c.requires.sink)
 
@@ -121,8 +118,7 @@ returns-in_err-put_end-clause-fault g c =
     let ids = c.args.accounts.now in
     let k = g.T.TableRows.kind ids in
     let a = c.in_ok-ended.ensures.next start i.bytes i.frames i.followed in
-    let on = put_on k (g.met.T.TableRows.no_rows ids) i.bytes a.all i.frames a.whole c.pieces.follower v first (g.K.Sink.state c.pieces.sink) (g.T.TableRows.shown c.pieces.rows) (g.T.TableRows.holds c.pieces.rows) i.done a.longer a.more i.followed.come a.followed.come i.put in
-    let n = c.in_ok-put_new.ensures.put a.all a.whole first i.done a.followed.come a.settled on in
+    let n = where_put (g.T.TableRows.kind c.args.accounts.now) (g.met.T.TableRows.no_rows c.args.accounts.now) _ i.followed.come a i.put c.in_ok-put_new.ensures.put in
     let e = a.ends c.if-ended.true in
     rw (p.1, p.2) (put_fails k start now first (g.K.Sink.state c.put_end.new.sink) _ _ a.all a.whole v refl a.followed
     (end_fails k (g.met.T.TableRows.is_text ids) start now first sink a.all a.whole v (g.T.TableRows.shown c.put_new.new.rows).page n.0 a.followed a.settled e.1 n.1.table n.2 (g.K.Sink.state c.put_end.new.sink) c.in_err-put_end.field-0.0
@@ -139,8 +135,7 @@ returns-then-ended-clause-answer g c =
     let ids = c.args.accounts.now in
     let k = g.T.TableRows.kind ids in
     let a = c.in_ok-ended.ensures.next start i.bytes i.frames i.followed in
-    let on = put_on k (g.met.T.TableRows.no_rows ids) i.bytes a.all i.frames a.whole c.pieces.follower v first (g.K.Sink.state c.pieces.sink) (g.T.TableRows.shown c.pieces.rows) (g.T.TableRows.holds c.pieces.rows) i.done a.longer a.more i.followed.come a.followed.come i.put in
-    let n = c.in_ok-put_new.ensures.put a.all a.whole first i.done a.followed.come a.settled on in
+    let n = where_put (g.T.TableRows.kind c.args.accounts.now) (g.met.T.TableRows.no_rows c.args.accounts.now) _ i.followed.come a i.put c.in_ok-put_new.ensures.put in
     let e = a.ends c.if-ended.true in
     let unwaited = not_waited c.args.waits c.in_ok-ended.ended c.if-ended.true c.in_ok-ended.ensures.goes_on in
     let flawed = c.in_ok-flaw.ensures (feed_of e.1.version a.whole) (whole_order a.all a.whole v e.1) in
@@ -155,8 +150,7 @@ pieces-preserved g c =
     let start = g.S.Source.state c.args.source.now in
     let first = g.K.Sink.state c.args.sink.now in
     let a = c.in_ok-ended.ensures.next start i.bytes i.frames i.followed in
-    let on = put_on (g.T.TableRows.kind c.args.accounts.now) (g.met.T.TableRows.no_rows c.args.accounts.now) i.bytes a.all i.frames a.whole c.pieces.follower c.advance.new.follower first (g.K.Sink.state c.pieces.sink) (g.T.TableRows.shown c.pieces.rows) (g.T.TableRows.holds c.pieces.rows) i.done a.longer a.more i.followed.come a.followed.come i.put in
-    let n = c.in_ok-put_new.ensures.put a.all a.whole first i.done a.followed.come a.settled on in
+    let n = where_put (g.T.TableRows.kind c.args.accounts.now) (g.met.T.TableRows.no_rows c.args.accounts.now) _ i.followed.come a i.put c.in_ok-put_new.ensures.put in
     let read = a.followed.works in
     let wrote = n.1.table.so_far.0 in
     record {
@@ -188,9 +182,8 @@ returns-in_err-put_new-clause-asked g c =
     let start = g.S.Source.state c.args.source.now in
     let first = g.K.Sink.state c.args.sink.now in
     let a = c.in_ok-ended.ensures.next start i.bytes i.frames i.followed in
-    let on = put_on (g.T.TableRows.kind c.args.accounts.now) (g.met.T.TableRows.no_rows c.args.accounts.now) i.bytes a.all i.frames a.whole c.pieces.follower c.advance.new.follower first (g.K.Sink.state c.pieces.sink) (g.T.TableRows.shown c.pieces.rows) (g.T.TableRows.holds c.pieces.rows) i.done a.longer a.more i.followed.come a.followed.come i.put in
     rw (p.1, p.2) (ends_or_not c.args.waits c.in_ok-ended.ended _ start (g.S.Source.state c.pieces.source) (g.S.Source.state c.advance.new.source)
-    (put_not_short (g.T.TableRows.kind c.args.accounts.now) _ a.all first (g.K.Sink.state c.put_new.new.sink) (c.in_err-put_new.ensures.fault a.all a.whole first i.done a.followed.come a.settled on)) i.goes_on c.in_ok-ended.ensures.ends)
+    (put_not_short (g.T.TableRows.kind c.args.accounts.now) _ a.all first (g.K.Sink.state c.put_new.new.sink) (where_put (g.T.TableRows.kind c.args.accounts.now) (g.met.T.TableRows.no_rows c.args.accounts.now) _ i.followed.come a i.put c.in_err-put_new.ensures.fault)) i.goes_on c.in_ok-ended.ensures.ends)
 
 pub returns-in_err-flaw-clause-asked : goal.returns-in_err-flaw-clause-asked
 returns-in_err-flaw-clause-asked g c =

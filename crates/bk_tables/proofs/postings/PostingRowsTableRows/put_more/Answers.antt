@@ -4,8 +4,8 @@ use Rattle.std.proofs.lemmas.Result.{err_from_is_err_and}
 use Rattle.bk_answer.specs.Values.{closed_value}
 use Rattle.bk_report.specs.Pages.{IsReady, desk}
 use Rattle.bk_results.specs.declared.fault.Fault.TheVariants as fault
-use Rattle.bk_tables.specs.Growing.{Shown, ShowsFirst}
-use Rattle.bk_tables.specs.Kinds.{MoreIsPut, PutsMore, payloads_in, postings}
+use Rattle.bk_tables.specs.Growing.{Shown}
+use Rattle.bk_tables.specs.Kinds.{MoreIsPut, PutsMore, postings}
 use Rattle.bk_tables.proofs.postings.PostingRowsTableRows.put_more.Goals as goal
 
 pub write_more-requires-clause-page : goal.write_more-requires-clause-page
