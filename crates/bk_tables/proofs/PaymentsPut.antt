@@ -1,5 +1,5 @@
 -- The payments of an order that grows.
-use Rattle.std.proofs.Common.{◌≡◌, ◌∙◌, ℕ, ◌+◌, ◌-◌, ◌*◌, ◌≤◌, List, [], ◌∷◌, ◌++◌, length, drop, get_or, take, Option, refl, sym, ap, append_assoc, length-append, arith}
+use Rattle.std.proofs.Common.{◌≡◌, ◌∙◌, ℕ, ◌+◌, ◌-◌, ◌≤◌, List, [], ◌∷◌, ◌++◌, length, drop, get_or, take, Option, refl, sym, ap, append_assoc, length-append, arith}
 use Rattle.std.proofs.lemmas.List.{drop_at, get_or_append_left, length-take-le, take-append-drop}
 use Rattle.std.proofs.lemmas.List.Concat.{flat_map-append, flat_map-cons}
 use Rattle.bk_base.specs.declared.genesis.Row.{Row}
@@ -17,8 +17,6 @@ use Rattle.bk_tables.specs.Growing.{ShowsFirst, Shown}
 use Rattle.bk_tables.specs.Payments.{payments_text, rows_at, rows_from, rows_in}
 use Rattle.bk_tables.specs.declared.payment.PaymentRow.{PaymentRow}
 use Rattle.bk_tables.proofs.TableTexts.{payments_two}
-use Rattle.bk_tables.proofs.BatchWalks.{taken_within}
-use Rattle.bk_tables.proofs.PaymentTables.{receipts_each}
 use Rattle.bk_tables.specs.Kinds.{IsMore, payloads_in, payments}
 
 -- ---- the rows of a place stay where more receipts come
@@ -82,13 +80,10 @@ module _ (ids : Option (List ℕ)) (c : ClosedValue) (made : IsMade c) (rows : S
   abbrev pub more : List ℕ
   more = payments_text ids (rows_from c.ledger.receipts rows.batch rows.place (drop rows.batch (payloads_in c)))
 
-  pub is_more : length more ≤ 1800 * (length c.ledger.receipts - rows.place) → IsMore (payments ids) c rows.batch more
-  is_more few = record {
-    rows =
-        let closed = made.1.1 in
-        let receipts : c.ledger.receipts ≡ receipts_of c.ledger.state.version (transactions_of (payloads_in c)) c.order.opening =
-        closed.executed.receipts ∙ (λ i. receipts_of (sym closed.executed.version i) (transactions_of (payloads_in c)) (sym closed.order.opening i)) in
-        payments_more ids c.ledger.state.version c.order.opening (take rows.batch (payloads_in c)) (payloads_in c) c.ledger.receipts rows.batch rows.place
-        (drop rows.batch (payloads_in c), sym (take-append-drop rows.batch (payloads_in c))) receipts (sym (length-take-le rows.batch (payloads_in c) h.within)) h.places;
-    short = let within = taken_within (payloads_in c) rows.batch in let each = receipts_each c made in omega (arith, few, within, each, h.places);
-  }
+  pub is_more : IsMore (payments ids) c rows.batch more
+  is_more =
+      let closed = made.1.1 in
+      let receipts : c.ledger.receipts ≡ receipts_of c.ledger.state.version (transactions_of (payloads_in c)) c.order.opening =
+      closed.executed.receipts ∙ (λ i. receipts_of (sym closed.executed.version i) (transactions_of (payloads_in c)) (sym closed.order.opening i)) in
+      payments_more ids c.ledger.state.version c.order.opening (take rows.batch (payloads_in c)) (payloads_in c) c.ledger.receipts rows.batch rows.place
+      (drop rows.batch (payloads_in c), sym (take-append-drop rows.batch (payloads_in c))) receipts (sym (length-take-le rows.batch (payloads_in c) h.within)) h.places

@@ -1,5 +1,5 @@
 -- What the places of an order that grows do to each account.
-use Rattle.std.proofs.Common.{◌≡◌, ◌∙◌, ℕ, ◌+◌, ◌-◌, ◌*◌, ◌≤◌, List, ◌++◌, length, drop, take, Option, sym, ap, arith}
+use Rattle.std.proofs.Common.{◌≡◌, ◌∙◌, ℕ, ◌+◌, ◌-◌, List, ◌++◌, length, drop, take, Option, sym, ap, arith}
 use Rattle.std.proofs.lemmas.List.{take-append-drop}
 use Rattle.std.proofs.lemmas.List.Concat.{flat_map-append}
 use Rattle.bk_base.specs.declared.genesis.Row.{Row}
@@ -13,7 +13,6 @@ use Rattle.bk_tables.specs.Kinds.{IsMore, payloads_in, postings}
 use Rattle.bk_tables.specs.Postings.{postings_from, postings_text}
 use Rattle.bk_tables.specs.declared.posting.Posting.{Posting}
 use Rattle.bk_tables.specs.private.Walking.{walk_rows}
-use Rattle.bk_tables.proofs.BatchWalks.{taken_within}
 use Rattle.bk_tables.proofs.PostingTables.{walk_all, walk_from}
 use Rattle.bk_tables.proofs.PostingTexts.{postings_two}
 use Rattle.bk_tables.proofs.PostingWalks.{walk_append}
@@ -34,17 +33,14 @@ module _ (ids : Option (List ℕ)) (c : ClosedValue) (rows : Shown) (h : ShowsFi
   abbrev pub more : List ℕ
   more = postings_text ids (postings_from (course_in c) rows.place (transactions_of (drop rows.batch (payloads_in c))))
 
-  pub is_more : length more ≤ 1800 * (length (transactions_of (payloads_in c)) - rows.place) → IsMore (postings ids) c rows.batch more
-  is_more few = record {
-    rows =
-        let v = c.ledger.state.version in
-        let xs = take rows.batch (payloads_in c) in
-        let ys = drop rows.batch (payloads_in c) in
-        let splits : payloads_in c ≡ xs ++ ys = sym (take-append-drop rows.batch (payloads_in c)) in
-        let txs : transactions_of (payloads_in c) ≡ transactions_of xs ++ transactions_of ys = ap transactions_of splits ∙ flat_map-append transactions_in xs ys in
-        ap ((postings ids).rows v c.order.opening) splits ∙ postings_grow ids v c.order.opening xs ys
-        ∙ ap (λ (qs : List Posting). (postings ids).rows v c.order.opening xs ++ postings_text ids qs)
-        (ap (λ (n : ℕ). walk_rows v n (transactions_of ys) (state_after v (transactions_of xs) c.order.opening)) (sym h.places)
-        ∙ walk_from (course_in c) (transactions_of xs) (transactions_of ys) txs rows.place h.places);
-    short = let within = taken_within (payloads_in c) rows.batch in omega (arith, few, within, h.places);
-  }
+  pub is_more : IsMore (postings ids) c rows.batch more
+  is_more =
+      let v = c.ledger.state.version in
+      let xs = take rows.batch (payloads_in c) in
+      let ys = drop rows.batch (payloads_in c) in
+      let splits : payloads_in c ≡ xs ++ ys = sym (take-append-drop rows.batch (payloads_in c)) in
+      let txs : transactions_of (payloads_in c) ≡ transactions_of xs ++ transactions_of ys = ap transactions_of splits ∙ flat_map-append transactions_in xs ys in
+      ap ((postings ids).rows v c.order.opening) splits ∙ postings_grow ids v c.order.opening xs ys
+      ∙ ap (λ (qs : List Posting). (postings ids).rows v c.order.opening xs ++ postings_text ids qs)
+      (ap (λ (n : ℕ). walk_rows v n (transactions_of ys) (state_after v (transactions_of xs) c.order.opening)) (sym h.places)
+      ∙ walk_from (course_in c) (transactions_of xs) (transactions_of ys) txs rows.place h.places)

@@ -62,12 +62,11 @@ payloads_in c = c.order.taken.ordered.payloads.list
 abbrev pub AboutAccounts : Type 1
 AboutAccounts = Version → List Row → List (List ℕ) → Type 0
 
--- this is the text of the rows of the batches from this one on, and those of a place have at most 1800 bytes
-pub record IsMore (k : TableKind) (c : ClosedValue) (batch : ℕ) (more : List ℕ) : Type 0 where
-  pub rows : k.rows c.ledger.state.version c.order.opening (payloads_in c)
-      ≡ k.rows c.ledger.state.version c.order.opening (take batch (payloads_in c)) ++ more
-  pub short : length more + 1800 * length (transactions_of (take batch (payloads_in c)))
-      ≤ 1800 * length (transactions_of (payloads_in c))
+-- this is the text of the rows of the batches from this one on
+abbrev pub IsMore : TableKind → ClosedValue → ℕ → List ℕ → Type 0
+IsMore k c batch more =
+    k.rows c.ledger.state.version c.order.opening (payloads_in c)
+    ≡ k.rows c.ledger.state.version c.order.opening (take batch (payloads_in c)) ++ more
 
 -- ---- what goes out
 
@@ -80,12 +79,14 @@ abbrev pub WrittenOrWaits : {X : Type 0} → Result X WriteFault → Device → 
 WrittenOrWaits (Ok x) old new text = Works old new × (Receives old new [] ⊎ Receives old new text)
 WrittenOrWaits (Err e) old new text = StopsWriting e text old new
 
--- the rows of the batches that a table did not show were put after what was put before, and this came of letting it go out
+-- the rows of the batches that a table did not show were put after what was put before, and this came of letting it go out. A
+-- header has at most 100 bytes, and the rows of a place 1800
 pub record PutsMore {X : Type 0} (result : Result X WriteFault) (k : TableKind) (c : ClosedValue) (before after : Shown) (old new : Device) : Type 0 where
   pub more : List ℕ
   pub is_more : IsMore k c before.batch more
   pub puts : Puts (desk before.page old) (desk after.page new) (length more) more
-  pub out : (start : Device) (text : List ℕ) → HasPut start (desk before.page old) text → length (text ++ more) < 2 ^ 62
+  pub size : length more + 1800 * before.place ≤ 1800 * after.place
+  pub out : (start : Device) (text : List ℕ) → HasPut start (desk before.page old) text → length text ≤ 1800 * before.place + 100
       → WrittenOrWaits result start new (text ++ more)
   pub all : ShowsAll (payloads_in c) after
 

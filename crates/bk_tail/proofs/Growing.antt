@@ -67,12 +67,12 @@ module _ (k : TableKind) (none_rows : (version : Version) (genesis : List Row) �
   }
 
   -- before the first byte: the header waits
-  pub none_put : (v : Followed) (first : Device) → HasTable k [] [] v.cut.version first first (none_shown k.header).page nothing_ordered
-  none_put v first = record {
+  pub none_put : (v : Followed) (first : Device) → length k.header ≤ 100 → HasTable k [] [] v.cut.version first first (none_shown k.header).page nothing_ordered
+  none_put v first short = record {
     shown = [];
     so_far = (refl, inl (Appends-nil first.bytes));
     put = subst (HasPut first (desk (none_shown k.header).page first)) (sym (append-nil k.header)) (header_put first k.header (none_shown k.header) refl);
-    short = omega arith;
+    short = omega (arith, short, length-append k.header []);
     few = λ _. (refl, refl);
     many = λ version known two. absurd (omega (arith, two));
   }
@@ -137,12 +137,7 @@ module _ (k : TableKind) (bytes : List ℕ) (frames : List Frame) (v : Followed)
       shown = rows_of payloads;
       so_far = out_so_far later out;
       put = subst (HasPut first (desk after later)) all_text (puts.put first (k.header ++ h.shown) h.put);
-      short =
-          let all = ap length grows in
-          let two = length-append (rows_of done.payloads.list) more in
-          let shown = ap length part_done.shown_is in
-          let before = h.short in
-          omega (arith, all, two, shown, before, few);
+      short = omega (arith, few, h.short, ap length all_text, length-append (k.header ++ h.shown) more);
       few = λ few. absurd (let two = at.good.opened in omega (arith, few, two));
       many = λ version known two.
           subst (λ (x : Version). IsPartDone k frames x b.taken.ordered (rows_of payloads)) (same_version v.cut.version at.version version at.known known)

@@ -19,7 +19,6 @@ use Rattle.bk_follow.specs.Queries.{IsClosedBook}
 use Rattle.bk_follow.proofs.ClosedBooks.{closed_for}
 use Rattle.bk_tables.specs.Growing.{Shown, ShowsAll, ShowsFirst, none_shown}
 use Rattle.bk_tables.proofs.PostingTables.{few_transactions}
-use Rattle.bk_tables.proofs.WholeTables.{few_bytes}
 use Rattle.bk_tail.specs.Tailing.{TableSoFar}
 use Rattle.bk_tables.specs.Kinds.{AboutAccounts, IsMore, IsTextOf, MoreIsPut, PutsMore, TableKind, payloads_in}
 use Rattle.bk_tail.specs.private.Putting.{IsPutOn, PutNot, WherePut}
@@ -38,7 +37,7 @@ shows_first xs payloads s begins all = record {
 
 -- ---- the rows that a settle adds
 
-module _ (k : TableKind) (is_text : IsTextOf k) (short : length k.header ≤ 100) (bytes : List ℕ) (frames : List Frame) (v : Followed) (b : BookValue) (c : ClosedValue) (first now : Device) (rows : Shown) (holds : AboutAccounts) (done : Ordered)
+module _ (k : TableKind) (is_text : IsTextOf k) (bytes : List ℕ) (frames : List Frame) (v : Followed) (b : BookValue) (c : ClosedValue) (first now : Device) (rows : Shown) (holds : AboutAccounts) (done : Ordered)
     (come : HasCome bytes frames v) (settled : IsSettled frames v) (is : v.book ≡ Some b) (h : IsClosedBook b c) (p : IsPutOn k bytes frames v first now rows holds done) where
   at : IsBookAt bytes frames v b
   at = book_at bytes frames v b come settled is
@@ -75,21 +74,11 @@ module _ (k : TableKind) (is_text : IsTextOf k) (short : length k.header ≤ 100
   grows : (more : List ℕ) → IsMore k c rows.batch more → k.rows at.version (genesis_of frames) b.taken.ordered.payloads.list ≡ k.rows at.version (genesis_of frames) done.payloads.list ++ more
   grows more is =
       let moved : (payloads : List (List ℕ)) → k.rows c.ledger.state.version c.order.opening payloads ≡ k.rows at.version (genesis_of frames) payloads = λ payloads i. k.rows (closed.executed.version i) (closed.order.opening i) payloads in
-      ap (λ (o : Ordered). k.rows at.version (genesis_of frames) o.payloads.list) (sym same) ∙ sym (moved (payloads_in c)) ∙ is.rows
+      ap (λ (o : Ordered). k.rows at.version (genesis_of frames) o.payloads.list) (sym same) ∙ sym (moved (payloads_in c)) ∙ is
       ∙ ap (λ (t : List ℕ). t ++ more) (moved (take rows.batch (payloads_in c)) ∙ ap (k.rows at.version (genesis_of frames)) are_shown)
 
-  -- they are short
-  few_more : (more : List ℕ) → IsMore k c rows.batch more → length more + 1800 * length (transactions_of done.payloads.list) ≤ 1800 * length (transactions_of (payloads_in c))
-  few_more more is = let few = is.short in let shown = ap (λ (ps : List (List ℕ)). length (transactions_of ps)) are_shown in omega (arith, few, shown)
-
-  all_short : (more : List ℕ) → IsMore k c rows.batch more → length ((k.header ++ p.table.shown) ++ more) < 2 ^ 62
-  all_short more is =
-      let few = few_more more is in
-      let before = p.table.short in
-      let all = few_transactions c made in
-      let one = length-append k.header p.table.shown in
-      let two = length-append (k.header ++ p.table.shown) more in
-      omega (arith, short, few, before, all, one, two)
+  within : length (k.header ++ p.table.shown) ≤ 1800 * rows.place + 100
+  within = omega (arith, p.table.short, p.shows.places)
 
   -- their rows are put
   pub step_put : {X : Type 0} (x : X) (later : Device) (after : Shown) (holds' : AboutAccounts) → PutsMore {X = X} (Ok x) k c rows after now later → holds' c.ledger.state.version c.order.opening (payloads_in c)
@@ -98,8 +87,8 @@ module _ (k : TableKind) (is_text : IsTextOf k) (short : length k.header ≤ 100
     b.taken.ordered,
     record {
       table = put_more k bytes frames v b first now rows.page done come at p.table m.more (grows m.more m.is_more) (is_text feed b.taken.ordered at.current.clear at.current.ordered) later after.page m.puts
-          (subst (λ (o : Ordered). length m.more + 1800 * length (transactions_of done.payloads.list) ≤ 1800 * length (transactions_of o.payloads.list)) same (few_more m.more m.is_more))
-          (m.out first (k.header ++ p.table.shown) p.table.put (all_short m.more m.is_more));
+          (let all = ap (λ (o : Ordered). length (transactions_of o.payloads.list)) same in omega (arith, all, m.size, m.all.places, p.shows.places))
+          (m.out first (k.header ++ p.table.shown) p.table.put within);
       shows = subst (λ (o : Ordered). ShowsAll o.payloads.list after) same m.all;
       few = let few = few_transactions c made in let here = m.all.places in omega (arith, few, here);
       before = λ short. absurd (let two = at.good.opened in omega (arith, short, two));
@@ -117,7 +106,7 @@ module _ (k : TableKind) (is_text : IsTextOf k) (short : length k.header ≤ 100
   step_not X later after (fault.Equivocation round author one other) n = n
   step_not X later after (fault.Unfinished place) n = n
   step_not X later after (fault.Write written) m = put_stops k bytes frames v b first now rows.page done come at p.table m.more (grows m.more m.is_more) (is_text feed b.taken.ordered at.current.clear at.current.ordered) later (record { written = written })
-      (m.out first (k.header ++ p.table.shown) p.table.put (all_short m.more m.is_more))
+      (m.out first (k.header ++ p.table.shown) p.table.put within)
   step_not X later after fault.Memory n = subst (λ (d : Device). TableSoFar k.text first d bytes) n (out_so_far k.text first now (length (transactions_of done.payloads.list)) bytes p.table.so_far)
 
 -- there is no book yet
@@ -132,27 +121,26 @@ step_none bytes frames v done come settled none = by_book v.book refl
 
 -- ---- what came of a call that puts them
 
-module _ {X : Type 0} (k : TableKind) (is_text : IsTextOf k) (short : length k.header ≤ 100) (v : Followed) (b : BookValue) (c : ClosedValue) (now later : Device) (rows after : Shown) (holds holds' : AboutAccounts) (is : v.book ≡ Some b) (h : IsClosedBook b c) where
+module _ {X : Type 0} (k : TableKind) (is_text : IsTextOf k) (v : Followed) (b : BookValue) (c : ClosedValue) (now later : Device) (rows after : Shown) (holds holds' : AboutAccounts) (is : v.book ≡ Some b) (h : IsClosedBook b c) where
   pub put_by : (result : Result X Fault) → MoreIsPut result k c rows after now later → OnOk result (holds' c.ledger.state.version c.order.opening (payloads_in c))
       → OnOk result (WherePut k v now rows holds (λ bytes frames first. (d : Ordered) × IsPutOn k bytes frames v first later after holds' d × IfSome v.book (λ b. d ≡ b.taken.ordered)))
-  put_by (Ok x) put known = λ bytes frames first done come settled p. step_put k is_text short bytes frames v b c first now rows holds done come settled is h p x later after holds' put known
+  put_by (Ok x) put known = λ bytes frames first done come settled p. step_put k is_text bytes frames v b c first now rows holds done come settled is h p x later after holds' put known
   put_by (Err e) put known = tt
 
   pub stops_by : (result : Result X Fault) → MoreIsPut result k c rows after now later → IfErr result (λ f. WherePut k v now rows holds (λ bytes frames first. PutNot k f bytes first later))
   stops_by (Ok x) put = tt
-  stops_by (Err f) put = λ bytes frames first done come settled p. step_not k is_text short bytes frames v b c first now rows holds done come settled is h p X later after f put
+  stops_by (Err f) put = λ bytes frames first done come settled p. step_not k is_text bytes frames v b c first now rows holds done come settled is h p X later after f put
 
 -- a table that was put can be counted
-pub table_short : (k : TableKind) → length k.header ≤ 100 → (bytes : List ℕ) (frames : List Frame) (v : Followed) (first now : Device) (rows : Shown) (holds : AboutAccounts) (done : Ordered) (p : IsPutOn k bytes frames v first now rows holds done)
-    → length (k.header ++ p.table.shown) < 2 ^ 62
-table_short k short bytes frames v first now rows holds done p = few_bytes k.header p.table.shown rows.place short (let few = p.table.short in let all = p.shows.places in omega (arith, few, all)) p.few
+pub table_short : {k : TableKind} {bytes : List ℕ} {frames : List Frame} {v : Followed} {first now : Device} {rows : Shown} {holds : AboutAccounts} {done : Ordered} (p : IsPutOn k bytes frames v first now rows holds done) → length (k.header ++ p.table.shown) < 2 ^ 62
+table_short p = omega (arith, p.table.short, p.shows.places, p.few)
 
 -- ---- before the first byte, and where more comes
 
 module _ (k : TableKind) (no_rows : (version : Version) (genesis : List Row) → k.rows version genesis [] ≡ []) where
-  pub none_put_on : (v : Followed) (first : Device) (rows : Shown) (holds : AboutAccounts) → rows ≡ none_shown k.header → ((version : Version) (genesis : List Row) → holds version genesis []) → IsPutOn k [] [] v first first rows holds nothing_ordered
-  none_put_on v first rows holds is before = subst (λ (s : Shown). IsPutOn k [] [] v first first s holds nothing_ordered) (sym is) (record {
-    table = none_put k no_rows v first;
+  pub none_put_on : (v : Followed) (first : Device) (rows : Shown) (holds : AboutAccounts) → length k.header ≤ 100 → rows ≡ none_shown k.header → ((version : Version) (genesis : List Row) → holds version genesis []) → IsPutOn k [] [] v first first rows holds nothing_ordered
+  none_put_on v first rows holds short is before = subst (λ (s : Shown). IsPutOn k [] [] v first first s holds nothing_ordered) (sym is) (record {
+    table = none_put k no_rows v first short;
     shows = record { batches = refl; places = refl };
     few = omega arith;
     before = λ few. before;

@@ -1,5 +1,5 @@
 -- A table that is put while its feed is followed.
-use Rattle.std.specs.Prelude.{◌≡◌, ◌⊎◌, ◌<◌, ◌≤◌, ◌*◌, ◌^◌, ℕ, List, [], ◌++◌, length, Option, Some}
+use Rattle.std.specs.Prelude.{◌≡◌, ◌⊎◌, ◌<◌, ◌≤◌, ◌+◌, ◌*◌, ◌^◌, ℕ, List, [], ◌++◌, length, Option, Some}
 use Rattle.bk_answer.specs.Answers.{TextIsOut}
 use Rattle.bk_answer.specs.RunReport.{HasPlaceIn}
 use Rattle.bk_base.specs.Feed.{Frame, FeedValue, feed_of, genesis_of}
@@ -34,14 +34,14 @@ TableUpTo text count old new bytes =
     × (end : Status) × TextIsOut (text feed end) old new))
 
 -- of these frames the table of an order was put: of nothing before the genesis is whole, and then of a part of them. What
--- is out is nothing, or the whole table of a feed that begins the bytes, with no place that the order has not. The rows of a
--- place have at most 1800 bytes
+-- is out is nothing, or the whole table of a feed that begins the bytes, with no place that the order has not. A header
+-- has at most 100 bytes, and the rows of a place 1800
 pub record HasTable (k : TableKind) (bytes : List ℕ) (frames : List Frame) (known : Option Version) (first now : Device)
     (page : PageValue) (done : Ordered) : Type 0 where
   pub shown : List ℕ
   pub so_far : TableUpTo k.text (length (transactions_of done.payloads.list)) first now bytes
   pub put : HasPut first (desk page now) (k.header ++ shown)
-  pub short : length shown ≤ 1800 * length (transactions_of done.payloads.list)
+  pub short : length (k.header ++ shown) ≤ 1800 * length (transactions_of done.payloads.list) + 100
   pub few : length frames < 2 → (done ≡ nothing_ordered) × (shown ≡ [])
   pub many : (version : Version) → known ≡ Some version → 2 ≤ length frames → IsPartDone k frames version done shown
 

@@ -43,7 +43,7 @@ returns-in_err-put_end-clause-fault g c =
     let rows = g.T.TableRows.shown c.in_ok-rows.rows in
     let fresh = c.in_ok-rows.ensures.header ids in
     let put = c.in_ok-put_more.ensures.put in
-    let short = all_short k made c.requires.closed (g.met.T.TableRows.short ids) rows put.more put.is_more in
+    let short = all_short k made c.requires.closed (g.met.T.TableRows.short ids) put in
     rw (p.1, p.2) (text_stops (IsMadeOf made) k.text _ (whole k made) (is_whole k made (g.met.T.TableRows.is_text ids)) first (g.K.Sink.state c.put_end.new.sink) c.in_err-put_end.field-0.0
     (subst (λ (t : _). StopsWriting c.in_err-put_end.field-0.0 t first (g.K.Sink.state c.put_end.new.sink)) (all_rows k made (g.met.T.TableRows.no_rows ids) rows fresh put.more put.is_more)
     (c.in_err-put_end.ensures first _ (put.puts.put first k.header (header_put first k.header rows fresh)) short)))
@@ -57,7 +57,7 @@ returns-clause-out g c =
     let rows = g.T.TableRows.shown c.in_ok-rows.rows in
     let fresh = c.in_ok-rows.ensures.header ids in
     let put = c.in_ok-put_more.ensures.put in
-    let short = all_short k made c.requires.closed (g.met.T.TableRows.short ids) rows put.more put.is_more in
+    let short = all_short k made c.requires.closed (g.met.T.TableRows.short ids) put in
     rw c.reach.ensures (text_out (IsMadeOf made) k.text _ (whole k made) (is_whole k made (g.met.T.TableRows.is_text ids)) first (g.K.Sink.state c.put_end.new.sink)
     (subst (λ (t : _). Writes t first (g.K.Sink.state c.put_end.new.sink)) (all_rows k made (g.met.T.TableRows.no_rows ids) rows fresh put.more put.is_more)
     (c.in_ok-put_end.ensures first _ (put.puts.put first k.header (header_put first k.header rows fresh)) short)))

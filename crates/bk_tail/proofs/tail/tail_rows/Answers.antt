@@ -39,7 +39,7 @@ pieces-init g c = record {
   frames = [];
   done = nothing_ordered;
   followed = none_followed (g.S.Source.state c.args.source.now) c.args.follower.now c.requires.first;
-  put = none_put_on (g.T.TableRows.kind c.args.accounts.now) (g.met.T.TableRows.no_rows c.args.accounts.now) c.args.follower.now (g.K.Sink.state c.args.sink.now) (g.T.TableRows.shown c.args.rows.now) (g.T.TableRows.holds c.args.rows.now) c.requires.none c.requires.before;
+  put = none_put_on (g.T.TableRows.kind c.args.accounts.now) (g.met.T.TableRows.no_rows c.args.accounts.now) c.args.follower.now (g.K.Sink.state c.args.sink.now) (g.T.TableRows.shown c.args.rows.now) (g.T.TableRows.holds c.args.rows.now) (g.met.T.TableRows.short c.args.accounts.now) c.requires.none c.requires.before;
   shown = let zero : length (transactions_of nothing_ordered.payloads.list) ≡ 0 = refl in omega (arith, zero);
   goes_on = λ _. ends_not_yet (g.S.Source.state c.args.source.now);
   source = c.requires.source;
@@ -122,7 +122,7 @@ returns-in_err-put_end-clause-fault g c =
     let e = a.ends c.if-ended.true in
     rw (p.1, p.2) (put_fails k start now first (g.K.Sink.state c.put_end.new.sink) _ _ a.all a.whole v refl a.followed
     (end_fails k (g.met.T.TableRows.is_text ids) start now first sink a.all a.whole v (g.T.TableRows.shown c.put_new.new.rows).page n.0 a.followed a.settled e.1 n.1.table n.2 (g.K.Sink.state c.put_end.new.sink) c.in_err-put_end.field-0.0
-    (c.in_err-put_end.ensures first (k.header ++ n.1.table.shown) n.1.table.put (table_short k (g.met.T.TableRows.short ids) a.all a.whole v first sink (g.T.TableRows.shown c.put_new.new.rows) (g.T.TableRows.holds c.put_new.new.rows) n.0 n.1))))
+    (c.in_err-put_end.ensures first (k.header ++ n.1.table.shown) n.1.table.put (table_short n.1))))
 
 pub returns-then-ended-clause-answer : goal.returns-then-ended-clause-answer
 returns-then-ended-clause-answer g c =
@@ -142,7 +142,7 @@ returns-then-ended-clause-answer g c =
     subst (λ (s : Status). IsAnswered (judged_text c.args.strict k.text) (ended_with s c.in_ok-flaw.flaw) (devices start first) (devices now (g.K.Sink.state c.put_end.new.sink))) (sym c.reach-end.ensures)
     (answered k (g.met.T.TableRows.is_text ids) start now first sink a.all a.whole v (g.T.TableRows.shown c.put_new.new.rows).page n.0 a.followed a.settled e.1 n.1.table n.2
     c.args.strict c.in_ok-flaw.flaw (g.K.Sink.state c.put_end.new.sink)
-    (e.0, ends_then start (g.S.Source.state c.pieces.source) now (i.goes_on unwaited) (ends_if (g.S.Source.state c.pieces.source) now c.in_ok-ended.ended c.if-ended.true (c.in_ok-ended.ensures.ends unwaited))) (c.in_ok-put_end.ensures first (k.header ++ n.1.table.shown) n.1.table.put (table_short k (g.met.T.TableRows.short ids) a.all a.whole v first sink (g.T.TableRows.shown c.put_new.new.rows) (g.T.TableRows.holds c.put_new.new.rows) n.0 n.1)) flawed)
+    (e.0, ends_then start (g.S.Source.state c.pieces.source) now (i.goes_on unwaited) (ends_if (g.S.Source.state c.pieces.source) now c.in_ok-ended.ended c.if-ended.true (c.in_ok-ended.ensures.ends unwaited))) (c.in_ok-put_end.ensures first (k.header ++ n.1.table.shown) n.1.table.put (table_short n.1)) flawed)
 
 pub pieces-preserved : goal.pieces-preserved
 pieces-preserved g c =

@@ -38,8 +38,7 @@ returns-clause-put g c =
     let shown : ShowsFirst (payloads_in made) w.shown = subst (λ (x : Walked). ShowsFirst (payloads_in made) x.shown) (sym c.self.view_is) c.requires.shown in
     let rows = ap (postings_text c.args.accounts.now) (left_rows made w c.requires.closed ready c.in-Some.state c.in-Some.is w.shown.place shown.places) in
     let put = puts_as (1200 * (length (transactions_of (payloads_in made)) - w.shown.place)) (more c.args.accounts.now made w.shown shown) c.put_batches.ensures.put (omega arith) rows in
-    let is = is_more c.args.accounts.now made w.shown shown (let few = put.short in omega (arith, few)) in
-    rw (← c.self.view_is) (more_put c.end_rows.result (postings c.args.accounts.now) made w.shown _ _ (g.K.Sink.state c.args.sink.now) (g.K.Sink.state c.end_rows.new.sink) is put c.end_rows.ensures.more c.end_rows.ensures.out (record {
+    rw (← c.self.view_is) (more_put c.end_rows.result (postings c.args.accounts.now) made w.shown _ _ (g.K.Sink.state c.args.sink.now) (g.K.Sink.state c.end_rows.new.sink) c.requires.closed shown (let few = put.short in omega (arith, few)) (is_more c.args.accounts.now made w.shown shown) put c.end_rows.ensures.more c.end_rows.ensures.out (record {
       batches = ap length (c.counts-counts.ensures ∙ c.requires.closed.1.1.executed.counts) ∙ length-map (payloads_in made) count_in;
       places = ap length c.receipts.ensures ∙ receipts_each made c.requires.closed;
     }))

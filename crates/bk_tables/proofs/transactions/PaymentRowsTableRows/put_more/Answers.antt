@@ -1,4 +1,4 @@
-use Rattle.std.proofs.Common.{ap, length, sym, subst, ◌∙◌}
+use Rattle.std.proofs.Common.{ap, length, sym, subst, ◌∙◌, arith}
 use Rattle.std.proofs.lemmas.List.{length-map}
 use Rattle.std.proofs.lemmas.Result.{err_from_is_err_and}
 use Rattle.bk_answer.specs.Values.{closed_value}
@@ -33,7 +33,7 @@ returns-in_err-end_rows-clause-put g c =
     let made = closed_value c.args.closed.now in
     let w : Shown = record { page = c.self.inside.sheet.page; batch = c.self.inside.batch; place = c.self.inside.place } in
     let shown : ShowsFirst (payloads_in made) w = subst (ShowsFirst (payloads_in made)) (sym c.self.view_is) c.requires.first in
-    rw (p.1, p.2, ← c.self.view_is) (more_put _ (payments c.args.accounts.now) made w _ _ (g.K.Sink.state c.args.sink.now) (g.K.Sink.state c.end_rows.new.sink) (is_more c.args.accounts.now made c.requires.closed w shown c.put_batches.ensures.short) c.put_batches.ensures c.end_rows.ensures.more c.in_err-end_rows.ensures.out (record {
+    rw (p.1, p.2, ← c.self.view_is) (more_put _ (payments c.args.accounts.now) made w _ _ (g.K.Sink.state c.args.sink.now) (g.K.Sink.state c.end_rows.new.sink) c.requires.closed shown (let few = c.put_batches.ensures.short in let each = receipts_each made c.requires.closed in omega (arith, few, each)) (is_more c.args.accounts.now made c.requires.closed w shown) c.put_batches.ensures c.end_rows.ensures.more c.in_err-end_rows.ensures.out (record {
       batches = ap length (c.counts.ensures ∙ c.requires.closed.1.1.executed.counts) ∙ length-map (payloads_in made) count_in;
       places = ap length c.receipts.ensures ∙ receipts_each made c.requires.closed;
     }))
@@ -43,7 +43,7 @@ returns-clause-put g c =
     let made = closed_value c.args.closed.now in
     let w : Shown = record { page = c.self.inside.sheet.page; batch = c.self.inside.batch; place = c.self.inside.place } in
     let shown : ShowsFirst (payloads_in made) w = subst (ShowsFirst (payloads_in made)) (sym c.self.view_is) c.requires.first in
-    rw (← c.self.view_is) (more_put _ (payments c.args.accounts.now) made w _ _ (g.K.Sink.state c.args.sink.now) (g.K.Sink.state c.end_rows.new.sink) (is_more c.args.accounts.now made c.requires.closed w shown c.put_batches.ensures.short) c.put_batches.ensures c.end_rows.ensures.more c.in_ok-end_rows.ensures.out (record {
+    rw (← c.self.view_is) (more_put _ (payments c.args.accounts.now) made w _ _ (g.K.Sink.state c.args.sink.now) (g.K.Sink.state c.end_rows.new.sink) c.requires.closed shown (let few = c.put_batches.ensures.short in let each = receipts_each made c.requires.closed in omega (arith, few, each)) (is_more c.args.accounts.now made c.requires.closed w shown) c.put_batches.ensures c.end_rows.ensures.more c.in_ok-end_rows.ensures.out (record {
       batches = ap length (c.counts.ensures ∙ c.requires.closed.1.1.executed.counts) ∙ length-map (payloads_in made) count_in;
       places = ap length c.receipts.ensures ∙ receipts_each made c.requires.closed;
     }))
