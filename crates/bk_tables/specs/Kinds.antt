@@ -81,7 +81,8 @@ WrittenOrWaits (Err e) old new text = StopsWriting e text old new
 
 -- the rows of the batches that a table did not show were put after what was put before, and this came of letting it go out. A
 -- header has at most 100 bytes, and the rows of a place 1800
-pub record PutsMore {X : Type 0} (result : Result X WriteFault) (k : TableKind) (c : ClosedValue) (before after : Shown) (old new : Device) : Type 0 where
+pub record PutsMore {X : Type 0} (result : Result X WriteFault) (k : TableKind) (c : ClosedValue)
+    (before after : Shown) (old new : Device) : Type 0 where
   pub more : List ℕ
   pub is_more : IsMore k c before.batch more
   pub puts : Puts (desk before.page old) (desk after.page new) (length more) more

@@ -215,7 +215,8 @@ pub(crate) fn put_parts<K: Sink>(
     requires transaction { IfSome (option_copied tx) IsTransaction }
     requires covers { is_covered state.old.version state.old.slots (option_copied tx) ≡ true }
     requires room { HasRoom state.old.version 1 state.old.rows }
-    ensures put { Puts (desk sheet.old.page (K.state sink.old)) (desk sheet.new.page (K.state sink.new))
+    ensures put { Puts (desk sheet.old.page (K.state sink.old))
+        (desk sheet.new.page (K.state sink.new))
         1200 (postings_text accounts.now
         (rows_of place state.old.version state.old.rows (option_copied tx.entry))) }
     ensures after { state.new ≡ after_of state.old (option_copied tx.entry) }

@@ -81,7 +81,8 @@ fn put_batch<K: Sink>(
     requires room { HasRoom state.old.version
         (length (transactions_in payload.now)) state.old.rows }
     requires few { place + length (transactions_in payload.now) < 2 ^ 32 }
-    ensures put { Puts (desk sheet.old.page (K.state sink.old)) (desk sheet.new.page (K.state sink.new))
+    ensures put { Puts (desk sheet.old.page (K.state sink.old))
+        (desk sheet.new.page (K.state sink.new))
         (1200 * length (transactions_in payload.now)) (postings_text accounts.now
         (walk_rows state.old.version place (transactions_in payload.now) state.old.rows)) }
     ensures after { state.new ≡ ledger_of state.old.version state.old.slots
@@ -122,7 +123,8 @@ pub(crate) fn put_batches<K: Sink>(
     requires within { first ≤ length intake.now.ordered.payloads.list }
     requires places { start ≡ length (transactions_of
         (take first intake.now.ordered.payloads.list)) }
-    ensures put { Puts (desk sheet.old.page (K.state sink.old)) (desk sheet.new.page (K.state sink.new))
+    ensures put { Puts (desk sheet.old.page (K.state sink.old))
+        (desk sheet.new.page (K.state sink.new))
         (1200 * (length (transactions_of intake.now.ordered.payloads.list) - start))
         (postings_text accounts.now (walk_rows state.old.version start
         (transactions_of (drop first intake.now.ordered.payloads.list)) state.old.rows)) }

@@ -42,8 +42,9 @@ fn put_new<T: TableRows, K: Sink>(
         first (K.state sink.old) (T.shown rows.old) (T.holds rows.old) done }
     ensures put { OnOk result (WherePut (T.kind accounts.now) follower.now
         (K.state sink.old) (T.shown rows.old) (T.holds rows.old)
-        (λ bytes frames first. (now : Ordered) × IsPutOn (T.kind accounts.now) bytes frames follower.now
-        first (K.state sink.new) (T.shown rows.new) (T.holds rows.new) now
+        (λ bytes frames first. (now : Ordered)
+        × IsPutOn (T.kind accounts.now) bytes frames follower.now first (K.state sink.new)
+        (T.shown rows.new) (T.holds rows.new) now
         × IfSome follower.now.book (λ b. now ≡ b.taken.ordered))) }
     ensures fault { IfErr result (λ f. WherePut (T.kind accounts.now) follower.now
         (K.state sink.old) (T.shown rows.old) (T.holds rows.old)
