@@ -1,7 +1,7 @@
 -- The batches of an order, one after another, as a statement reads them.
 use Rattle.std.proofs.Common.{◌≡◌, ℕ, zero, suc, ◌+◌, ◌≤◌, List, [], ◌∷◌, ◌++◌, length, take, drop, Option, Some, ap, ◌∙◌, arith, add-one, length-append}
 use Rattle.std.specs.Prelude.{slice_get}
-use Rattle.std.proofs.lemmas.List.{append-nil, take_all}
+use Rattle.std.proofs.lemmas.List.{append-nil}
 use Rattle.std.proofs.lemmas.List.Concat.{flat_map-append, flat_map-cons}
 use Rattle.bk_tx.specs.Batches.{transactions_in, transactions_of}
 use Rattle.bk_tx.specs.Transaction.{Transaction}
@@ -47,6 +47,3 @@ place_next ps i old new p here at grown =
     let all : transactions_of (take (i + 1) ps) ≡ transactions_of (take i ps) ++ transactions_in p =
     ap (λ (k : ℕ). transactions_of (take k ps)) (add-one i) ∙ ap transactions_of (take_next ps i p here) ∙ txs_next (take i ps) p in
     omega (arith, at, grown, ap length all, length-append (transactions_of (take i ps)) (transactions_in p))
-
-pub place_end : (ps : List (List ℕ)) (i place : ℕ) → length ps ≤ i → place ≡ length (transactions_of (take i ps)) → place ≡ length (transactions_of ps)
-place_end ps i place high at = at ∙ ap (λ (qs : List (List ℕ)). length (transactions_of qs)) (take_all i ps high)

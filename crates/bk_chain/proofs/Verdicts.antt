@@ -89,9 +89,6 @@ none_breaks (v ∷ front) before broken more h = none_breaks front before broken
 clash : (o : Option Break) (by_what : Break) → o ≡ None → o ≡ Some by_what → ⊥
 clash o by_what e f = absurd (cc (sym e ∙ f))
 
-abbrev break_between : LinkValue → LinkValue → Option Break
-break_between x y = break_of x y
-
 one_break : (front other : List LinkValue) (a b c d : LinkValue) (more rest : List LinkValue) (by_what by_other : Break)
     → front ++ a ∷ b ∷ more ≡ other ++ c ∷ d ∷ rest → AllFollow (front ++ a ∷ []) → AllFollow (other ++ c ∷ []) → break_of a b ≡ Some by_what → break_of c d ≡ Some by_other
     → (length front ≡ length other) × (by_what ≡ by_other)

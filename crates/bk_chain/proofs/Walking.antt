@@ -1,8 +1,8 @@
 -- A text of links whose lines are taken in turn.
-use Rattle.std.proofs.Common.{◌≡◌, inl, inr, ℕ, ◌+◌, ◌-◌, ◌<◌, ◌≤◌, ◌==◌, Bool, true, false, if◌then◌else◌, List, [], ◌∷◌, ◌++◌, length, get_or, map, take, drop, Err, refl, sym, ap, subst, ◌∙◌, append_assoc, arith, length-append, length-drop}
+use Rattle.std.proofs.Common.{◌≡◌, inl, inr, ℕ, ◌+◌, ◌-◌, ◌<◌, ◌≤◌, ◌==◌, Bool, true, false, if◌then◌else◌, List, [], ◌∷◌, ◌++◌, length, get_or, map, take, drop, Err, refl, sym, ap, subst, ◌∙◌, append_assoc, arith, length-append}
 use Rattle.std.specs.Prelude.{All}
 use Rattle.std.proofs.lemmas.Bool.{eq-eqb, eqb-true}
-use Rattle.std.proofs.lemmas.List.{length-take, take_all}
+use Rattle.std.proofs.lemmas.List.{take_all}
 use Rattle.std.proofs.lemmas.List.Elements.{All-nil, All-push}
 use Rattle.bk_script.specs.Words.{pieces, pieces_after}
 use Rattle.bk_script.specs.Listing.{ended_lines, last_line, lines_of}
@@ -176,10 +176,3 @@ module _ (text last : List ℕ) (links : List LinkValue) (end : ℕ) (few : leng
     fit = subst (All Fits) (sym pushed) (All-push Fits links v ended.fit line.0);
     lines = one_more ∙ ((λ i. map link_line links ++ line.1 i ∷ []) ∙ (sym (map_push links v) ∙ ap (map link_line) (sym pushed)));
   }
-
-  pub few_taken : (more : List LinkValue) → ((v : LinkValue) × IsLineOf v last × (more ≡ links ++ v ∷ [])) → length more ≤ length text
-  few_taken more (v, line, pushed) =
-      let n = ap length pushed in
-      let long = ap length is in
-      let left : length last ≡ 0 → ⊥ = not_nothing last some in
-      omega (arith, n, long, left, ended.few, ended.within, length-append links (v ∷ []), length-drop end text, length-take (length text - end) (drop end text))

@@ -1,5 +1,5 @@
 -- Where feeds end that are followed, and whether two of them agree.
-use Rattle.std.proofs.Common.{◌≡◌, ◌≤◌, ℕ, Bool, true, false, List, [], ◌∷◌, length, Option, Some, None, refl, sym, ap, subst, ◌∙◌, ◌⊎◌, inl, inr, ⊎_elim, arith}
+use Rattle.std.proofs.Common.{◌≡◌, ◌≤◌, ℕ, Bool, true, List, [], ◌∷◌, length, Option, Some, refl, sym, ap, subst, ◌∙◌, ◌⊎◌, inl, inr, ⊎_elim, arith}
 use Rattle.std.specs.Prelude.{IfErr, OnOk, Result, Ok, Err}
 use Rattle.std.proofs.lemmas.List.Elements.{Contains-append_left, Contains-append_right}
 use Rattle.bk_base.specs.declared.version.Version.{Version}
@@ -32,7 +32,7 @@ use Rattle.bk_follow.specs.Queries.{missing_in}
 use Rattle.bk_follow.specs.Finishing.{OfFeed, Closes, CloseFails}
 use Rattle.bk_follow.specs.Follower.{BookValue, Followed, Follows, FollowsBy, IsBookOf, IsCurrent, ordered_in, receipts_of_executed}
 use Rattle.bk_follow.specs.Queries.{rows_of_executed}
-use Rattle.bk_follow.specs.Replaying.{AllHasCome, ReadFails}
+use Rattle.bk_follow.specs.Replaying.{AllHasCome}
 use Rattle.bk_answer.specs.RunReport.{committee_in, later_frames, IsOrderIn, IsStopIn, HasPlaceIn, HasPlace}
 use Rattle.bk_answer.specs.Flaws.{IsFlawIf}
 use Rattle.bk_compare.specs.private.Ends.{HasStopIn, HasEnded, Ends, EndsNot, OfEnded, ComparisonStopsWith, IsDifferOf}
@@ -93,24 +93,6 @@ ends_by_stop (fault.Unfinished place) old new e h = absurd cc
 ends_by_stop (fault.Write written) old new e h = absurd cc
 ends_by_stop fault.Memory old new e h = absurd cc
 
--- after a stop no fault is kept
-pub works_by_stop : (f : Fault) (old new : Followed) → stops f ≡ true → old.fault ≡ None → CloseFails old new f → new.fault ≡ None
-works_by_stop (fault.Feed found) old new e none h = absurd cc
-works_by_stop (fault.Collision id) old new e none h = ap (λ (v : Followed). v.fault) h.1 ∙ none
-works_by_stop (fault.Equivocation round author first second) old new e none h = ap (λ (v : Followed). v.fault) h.1 ∙ none
-works_by_stop (fault.Unfinished place) old new e none h = absurd cc
-works_by_stop (fault.Write written) old new e none h = absurd cc
-works_by_stop fault.Memory old new e none h = absurd cc
-
--- these are the other reasons
-pub ends_not : (f : Fault) (old new : Followed) → stops f ≡ false → CloseFails old new f → EndsNot old f
-ends_not (fault.Feed found) old new e h = h.0
-ends_not (fault.Collision id) old new e h = absurd cc
-ends_not (fault.Equivocation round author first second) old new e h = absurd cc
-ends_not (fault.Unfinished place) old new e h = h.0
-ends_not (fault.Write written) old new e h = absurd h
-ends_not fault.Memory old new e h = tt
-
 -- ---- one source
 
 -- what a source has has ended
@@ -126,15 +108,6 @@ source_not (fault.Unfinished place) known now v works come h =
     (works, of_given known now v (λ feed. HasPlaceIn feed place) (λ bytes. HasPlace bytes place) come h (λ bytes feed good spelled there. record { feed = feed; good = good; spelled = spelled; holds = there }))
 source_not (fault.Write written) known now v works come h = absurd h
 source_not fault.Memory known now v works come h = works
-
--- a source that was not read
-pub source_unread : (f : Fault) (known now : Device) → ReadFails f known now → FollowFails f known now
-source_unread (fault.Feed found) known now h = h
-source_unread (fault.Collision id) known now h = absurd h
-source_unread (fault.Equivocation round author first second) known now h = absurd h
-source_unread (fault.Unfinished place) known now h = absurd h
-source_unread (fault.Write written) known now h = absurd h
-source_unread fault.Memory known now h = h
 
 -- ---- two feeds
 

@@ -45,16 +45,6 @@ lack_added batches items now l lacking is =
     ∙ ap (λ (b : Bool). cond b list more) (any_digests l.digest items)
     ∙ sym (ap (λ (b : Bool). cond b (cond (list_any (bytes_eq l.digest) (digests_in list)) list more) list) lacking)
 
-pub names_one_more : (batches : List Batch) (place : CertRef) (ds : List (List ℕ)) (k : ℕ) (d : List ℕ) (old now : List Naming) → k < length ds → d ≡ get_or ds k d
-    → now ≡ fold (with_lacking batches) old (named_by place (take k ds))
-    → with_lacking batches now (record { digest = d; place = place }) ≡ fold (with_lacking batches) old (named_by place (take (k + 1) ds))
-names_one_more batches place ds k d old now low here is =
-    let named : List ℕ → Naming = λ (x : List ℕ). record { digest = x; place = place } in
-    ap (λ (ns : List Naming). with_lacking batches ns (named d)) is
-    ∙ sym (fold-append (with_lacking batches) old (named_by place (take k ds)) (named d ∷ []))
-    ∙ ap (fold (with_lacking batches) old) (sym (map-append named (take k ds) (d ∷ [])))
-    ∙ ap (λ (xs : List (List ℕ)). fold (with_lacking batches) old (named_by place xs)) (sym (take_more ds k d low ∙ ap (λ (x : List ℕ). take k ds ++ x ∷ []) (sym here)))
-
 -- what the certificate at a place names
 abbrev at_place : List Node → CertRef → List Naming
 at_place certs a = named_by a (named_at certs a)

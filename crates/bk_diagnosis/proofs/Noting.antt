@@ -5,13 +5,9 @@ use Rattle.std.specs.Prelude.{◌↔◌}
 use Rattle.std.proofs.lemmas.Bool.{true≢false}
 use Rattle.std.proofs.lemmas.List.{take_more}
 use Rattle.std.proofs.lemmas.List.Elements.{Contains-append_left, Contains-push, Contains-push_cases}
-use Rattle.bk_cert.proofs.Lists.{none_in_nil}
 use Rattle.bk_diagnosis.specs.private.Colliding.{HasSome, ListsSome}
 
 module _ {E : Type 0} (name : E → List ℕ) (P : E → Type 0) where
-  pub lists_none : (old : List (List ℕ)) → ListsSome name P [] old old
-  lists_none old id = (λ h. inl h, λ h. ⊎_elim (λ (a : Contains old id). a) (λ (s : HasSome name P [] id). absurd (none_in_nil s.0 s.1)) h)
-
   some_more : (xs : List E) (x : E) (id : List ℕ) → HasSome name P xs id → HasSome name P (xs ++ x ∷ []) id
   some_more xs x id (e, there, is, p) = (e, Contains-append_left xs (x ∷ []) e there, is, p)
 

@@ -11,7 +11,7 @@ use Rattle.bk_cert.specs.Clear.{IsClear}
 use Rattle.bk_cert.specs.Node.{Node}
 use Rattle.bk_cert.specs.Place.{place_of}
 use Rattle.bk_cert.specs.declared.place.CertRef.{CertRef}
-use Rattle.bk_committee.specs.Sizes.{Sizes, members, quorum}
+use Rattle.bk_committee.specs.Sizes.{Sizes, members}
 use Rattle.bk_evidence.specs.Twins.{IsIdAt}
 use Rattle.bk_order.specs.declared.reject.Reject.{Reject}
 use Rattle.bk_rounds.specs.Admission.{IsAdmitted, IsPresent, IsWaiting, StandsAt, WaitsAt}
@@ -21,7 +21,7 @@ use Rattle.bk_rounds.proofs.Admitted.{admitted_held}
 use Rattle.bk_diagnosis.specs.Lines.{line_text, text_of}
 use Rattle.bk_diagnosis.specs.Waiting.{AreParentLines, AreReasons, AreWaitingLines, IsParentLine, MadeParent}
 use Rattle.bk_diagnosis.specs.Waiting.IsParentLine.{waits, other_round, fits}
-use Rattle.bk_diagnosis.specs.private.Graph.{GraphValue, HasParentLines, HasReasons, IsEntry, AddsWaiting, MadeOneOf, line_if, round_line}
+use Rattle.bk_diagnosis.specs.private.Graph.{GraphValue, HasParentLines, IsEntry, AddsWaiting, MadeOneOf, line_if, round_line}
 use Rattle.bk_diagnosis.specs.declared.line.Line.{Line}
 use Rattle.bk_diagnosis.specs.declared.line.Line.TheVariants as line
 
@@ -86,9 +86,6 @@ module _ (z : Sizes) (certs : List Node) (rejects : List Reject) (c : Node) wher
   lines_more (q ∷ ps) p found one (first, later, here, rest, e) k =
       (first, later ++ one, here, lines_more ps p later one rest k, ap (λ (ls : List Line). ls ++ one) e ∙ append_assoc first later one)
 
-pub parents_none : (g : GraphValue) (c : Node) (old : List Line) → HasParentLines g c [] old old
-parents_none g c old = ([], refl, sym (append-nil old))
-
 pub parents_more : (g : GraphValue) (c : Node) (ps : List (List ℕ)) (p : List ℕ) (old now new one : List Line) → HasParentLines g c ps old now → IsParentLine g.sizes g.certs g.rejects c p one → new ≡ now ++ one
     → HasParentLines g c (ps ++ p ∷ []) old new
 parents_more g c ps p old now new one (found, are, is) here e = (
@@ -122,29 +119,6 @@ module _ (certs : List Node) (ps : List (List ℕ)) (p : List ℕ) where
         (contains_cases p [] m.0.id last)))
         (Contains-append_cases ps (p ∷ []) m.0.id m.2)),
   )
-
--- ---- why it waits
-
-same_length : {X : Type 0} (xs ys : List X) → length (xs ++ ys) ≡ length xs → ys ≡ []
-same_length xs [] e = refl
-same_length xs (y ∷ ys) e = absurd (let all = length-append xs (y ∷ ys) in omega (arith, all, e))
-
-module _ (g : GraphValue) (c : Node) (old mid : List Line) where
-  pub weighs_little : (weight needed : ℕ) (new : List Line) → HasParentLines g c c.header.parents old mid → length mid ≡ length old → WeighExactly g.sizes (MadeParent g.certs c) weight → needed ≡ quorum g.sizes
-      → new ≡ mid ++ line.Weight weight needed ∷ [] → HasReasons g c old new
-  weighs_little weight needed new (found, are, is) same w eq e =
-      let none : found ≡ [] = same_length old found (ap length (sym is) ∙ same) in (
-        line.Weight weight needed ∷ [],
-        ([], subst (AreParentLines g.sizes g.certs g.rejects c c.header.parents) none are, (weight, w, ap (λ (n : ℕ). line.Weight weight n) eq, refl)),
-        e ∙ ap (λ (ls : List Line). ls ++ line.Weight weight needed ∷ []) (is ∙ ap (λ (ls : List Line). old ++ ls) none ∙ append-nil old),
-      )
-
-  pub parents_keep : HasParentLines g c c.header.parents old mid → (length mid ≡ length old → ⊥) → HasReasons g c old mid
-  parents_keep (found, are, is) other = (found, reasons found are is, is)
-    where
-      reasons : (lines : List Line) → AreParentLines g.sizes g.certs g.rejects c c.header.parents lines → mid ≡ old ++ lines → AreReasons g.sizes g.certs g.rejects c lines
-      reasons [] a e = absurd (other (ap length (e ∙ append-nil old)))
-      reasons (l ∷ more) a e = (l ∷ more, a, refl)
 
 -- ---- step by step
 
@@ -200,9 +174,6 @@ module _ (z : Sizes) (certs : List Node) (rejects : List Reject) where
     ap (λ (ls : List Line). ls ++ line.Waiting a.round a.author c.id ∷ reasons) is
         ∙ ap (λ (ls : List Line). line.Waiting b.round b.author d.id ∷ ls) (append_assoc others later (line.Waiting a.round a.author c.id ∷ reasons)),
   )
-
-pub adds_none : (g : GraphValue) (text : List ℕ) → AddsWaiting g [] text text
-adds_none g text = ([], refl, sym (append-nil text))
 
 pub adds_next : (g : GraphValue) (places : List CertRef) (k : ℕ) (a d : CertRef) (old now new : List ℕ) (entry : List Line) → k < length places → get_or places k d ≡ a → AddsWaiting g (take k places) old now
     → IsEntry g a entry → new ≡ now ++ text_of entry → AddsWaiting g (take (k + 1) places) old new

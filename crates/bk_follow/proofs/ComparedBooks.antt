@@ -1,6 +1,6 @@
 -- What two books that are compared say of their feeds.
-use Rattle.std.proofs.Common.{◌≡◌, ℕ, false, suc, ◌+◌, ◌<◌, ◌≤◌, ◌⊎◌, inl, inr, ⊎_elim, List, [], ◌∷◌, ◌++◌, length, Option, Some, None, refl, sym, ap, subst, ◌∙◌, arith, length-append}
-use Rattle.std.specs.Prelude.{slice_get, MatchOption}
+use Rattle.std.proofs.Common.{◌≡◌, ℕ, suc, ◌+◌, ◌<◌, ◌≤◌, ◌⊎◌, inl, inr, ⊎_elim, List, [], ◌∷◌, ◌++◌, length, Option, Some, None, refl, sym, ap, subst, ◌∙◌, arith, length-append}
+use Rattle.std.specs.Prelude.{slice_get}
 use Rattle.std.proofs.lemmas.Bool.{cases_lt}
 use Rattle.std.proofs.lemmas.List.{append-nil}
 use Rattle.std.proofs.lemmas.List.Elements.{Contains-append_left, Contains-append_right}
@@ -14,8 +14,7 @@ use Rattle.bk_order.specs.Agreement.{OneBegins, OrderBegins}
 use Rattle.bk_order.specs.Orders.{Ordered, IsOrderOf}
 use Rattle.bk_order.specs.Stops.{HasNoStop, IsStop}
 use Rattle.bk_order.specs.Frames.{AreCerts}
-use Rattle.bk_order.specs.Intake.{HasAsOrder, IsKeptOf, Taken, HasTaken}
-use Rattle.bk_order.specs.declared.stop.Stop.{Stop}
+use Rattle.bk_order.specs.Intake.{HasAsOrder, IsKeptOf}
 use Rattle.bk_order.specs.declared.stop.Stop.TheVariants as stop
 use Rattle.bk_order.proofs.Agreeing.{parts_agree}
 use Rattle.bk_order.proofs.Sets.{none_in_part}
@@ -36,7 +35,7 @@ use Rattle.bk_results.specs.declared.fault.Fault.{Fault}
 use Rattle.bk_follow.specs.declared.opening.Opened.{Opened}
 use Rattle.bk_follow.specs.Agreement.{AgreeInOrder, HaveOneSetup, frames_together, HaveNoStop, HaveStop, OneBeginsFor, OfBoth, SetupsDiffer, FollowersAgree, FollowersDiffer}
 use Rattle.bk_follow.specs.private.Books.{IsGoodBook}
-use Rattle.bk_follow.specs.private.Comparing.{differ_of, HasOrderOf, IsLesser, HaveSameSetup, OfTaken, BooksAgree, BooksDiffer, BooksUnlike}
+use Rattle.bk_follow.specs.private.Comparing.{HasOrderOf, IsLesser, HaveSameSetup, OfTaken, BooksAgree, BooksDiffer, BooksUnlike}
 use Rattle.bk_follow.specs.private.Parts.{followed}
 use Rattle.bk_follow.proofs.Books.{committee_version}
 use Rattle.bk_follow.proofs.Following.{follower_of, good_of, of_frames}
@@ -150,12 +149,6 @@ module _ (f g : FeedValue) (b c : BookValue) (good : IsGoodBook f b) (also : IsG
     genesis = sym good.book.opening ∙ s.opening ∙ also.book.opening;
   }
 
-  pub setup_back : HaveOneSetup f g → HaveSameSetup b c
-  setup_back h = record {
-    committee = good.book.committee ∙ h.committee ∙ sym also.book.committee;
-    opening = good.book.opening ∙ h.genesis ∙ sym also.book.opening;
-  }
-
   version_forth : b.taken.committee.version ≡ c.taken.committee.version → f.version ≡ g.version
   version_forth e = sym (committee_version f.version _) ∙ ap (λ (k : CommitteeValue). k.version) (sym good.book.committee) ∙ e
       ∙ ap (λ (k : CommitteeValue). k.version) also.book.committee ∙ committee_version g.version _
@@ -247,37 +240,6 @@ module _ (f g : FeedValue) (b c : BookValue) (good : IsGoodBook f b) (also : IsG
     pub rows_agree : length (receipts_in (Some b)) ≡ length (receipts_in (Some c)) → rows_in (Some b) ≡ rows_in (Some c)
     rows_agree e = rows_here ∙ same_rows f.version (genesis_of f.frames) good.book.order.payloads.list also.book.order.payloads.list lists (sym (ap length receipts_here) ∙ e ∙ ap length receipts_there)
         ∙ sym rows_there
-
--- the stop of both books is why they differ
-pub books_stopped : (b c : BookValue) (v w : Taken) (o : Option Stop) (s : Stop) (d : Differ) → b.taken ≡ v → c.taken ≡ w → HaveSameSetup b c → o ≡ Some s
-    → ((fs gs : List Frame) → HasTaken fs v → HasTaken gs w → MatchOption o (HasNoStop v.committee (fs ++ gs)) (IsStop v.committee (fs ++ gs))) → d ≡ differ_of s → BooksDiffer b c d
-books_stopped b c v w o s d is also setup found h e = subst (BooksDiffer b c) (sym e) (by_stop s stopped)
-  where
-    stopped : OfTaken b c (λ fs. IsStop b.taken.committee fs s)
-    stopped fs gs t u = subst (λ (x : Taken). IsStop x.committee (fs ++ gs) s) (sym is)
-        (subst (λ (p : Option Stop). MatchOption p (HasNoStop v.committee (fs ++ gs)) (IsStop v.committee (fs ++ gs))) found (h fs gs (subst (HasTaken fs) is t) (subst (HasTaken gs) also u)))
-
-    by_stop : (x : Stop) → OfTaken b c (λ fs. IsStop b.taken.committee fs x) → BooksDiffer b c (differ_of x)
-    by_stop (stop.Collision id) t = (setup, t)
-    by_stop (stop.Twins e) t = (setup, t)
-
--- and where there is none they agree
-pub books_clear : (b c : BookValue) (v w : Taken) (o : Option Stop) (first second certs m n places : ℕ) → b.taken ≡ v → c.taken ≡ w → HaveSameSetup b c → o ≡ None
-    → ((fs gs : List Frame) → HasTaken fs v → HasTaken gs w → MatchOption o (HasNoStop v.committee (fs ++ gs)) (IsStop v.committee (fs ++ gs)))
-    → (v.failed ≡ false → HasAsOrder v.committee v.kept first) → (w.failed ≡ false → HasAsOrder w.committee w.kept second) → IsLesser certs first second
-    → m ≡ length (receipts_of_executed b.executed) → n ≡ length (receipts_of_executed c.executed) → IsLesser places m n
-    → BooksAgree b c (record { certs = certs; places = places })
-books_clear b c v w o first second certs m n places is also setup none h x y lesser p q fewer = record {
-  setup = setup;
-  clear = λ fs gs t u. subst (λ (z : Taken). HasNoStop z.committee (fs ++ gs)) (sym is)
-      (subst (λ (r : Option Stop). MatchOption r (HasNoStop v.committee (fs ++ gs)) (IsStop v.committee (fs ++ gs))) none (h fs gs (subst (HasTaken fs) is t) (subst (HasTaken gs) also u)));
-  first = first;
-  second = second;
-  first_is = subst (λ (z : Taken). z.failed ≡ false → HasAsOrder z.committee z.kept first) (sym is) x;
-  second_is = subst (λ (z : Taken). z.failed ≡ false → HasAsOrder z.committee z.kept second) (sym also) y;
-  certs = lesser;
-  places = subst (λ (r : ℕ × ℕ). IsLesser places r.0 r.1) (λ i. (p i, q i)) fewer;
-}
 
 -- ---- two Followers
 

@@ -219,9 +219,6 @@ settled_now old new closed =
     let e = closed.current closed.come.0 closed.come.1 closed.come.2 in
     (feed_of e.version closed.come.1, e.good, e.holds.0, e.holds.1, e.holds.2)
 
-pub book_of_closed : (old new : Followed) → Closes old new → new.book ≡ None → ⊥
-book_of_closed old new closed none = let s = settled_now old new closed in absurd (let e : None ≡ Some s.2 = sym none ∙ s.3 in cc)
-
 -- a Follower that works keeps no fault
 pub no_fault : (stands : Option Fault) (P : Fault → Type 0) → stands ≡ None → IfSome stands P
 no_fault stands P none = subst (λ (o : Option Fault). IfSome o P) (sym none) tt

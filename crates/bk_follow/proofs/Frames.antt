@@ -1,5 +1,5 @@
 -- What was taken of the frames of a feed that ends, and what is answered of it.
-use Rattle.std.proofs.Common.{◌≡◌, ℕ, false, List, [], Some, refl}
+use Rattle.std.proofs.Common.{◌≡◌, ℕ, false, List, [], refl}
 use Rattle.bk_frames.specs.Device.{Device}
 use Rattle.bk_base.specs.Feed.{FeedValue, Frame}
 use Rattle.bk_order.specs.Intake.{Taken}
@@ -8,19 +8,9 @@ use Rattle.bk_results.specs.declared.fault.Fault.TheVariants as fault
 use Rattle.bk_answer.specs.Answers.{IsTakenOf, TextIsOut, TextStops, WritesAnswer, WritesNot}
 use Rattle.bk_answer.specs.Closed.{IsTakenFor}
 use Rattle.bk_follow.specs.Finishing.{OfFeed}
-use Rattle.bk_follow.specs.Follower.{BookValue, Followed, HasCome}
-use Rattle.bk_follow.specs.Queries.{EndsNot}
+use Rattle.bk_follow.specs.Follower.{Followed, HasCome}
 use Rattle.bk_follow.specs.Stopping.{stops}
 use Rattle.bk_follow.specs.private.Answering.{FollowerAnswers, FollowerAnswersNot}
-use Rattle.bk_follow.proofs.Following.{of_feed, untouched}
-
--- the book of a feed has taken all of its frames after the genesis
-pub taken_all : (v : Followed) (b : BookValue) → v.book ≡ Some b → v.cut.kept ≡ [] → OfFeed v (λ feed. IsTakenFor feed b.taken)
-taken_all v b is none = of_feed v b (λ feed. IsTakenFor feed b.taken) is none (λ feed _ good. record {
-  committee = good.book.committee;
-  taken = good.book.taken;
-  works = good.book.works;
-})
 
 -- it is made of a feed
 pub taken_now : (v : Followed) (taken : Taken) → ((bytes : List ℕ) × (frames : List Frame) × HasCome bytes frames v) → OfFeed v (λ feed. IsTakenFor feed taken) → (feed : FeedValue) × IsTakenOf taken feed
@@ -33,15 +23,6 @@ on_taken v taken holds ends h = λ bytes frames come.
     record { version = e.version; known = e.known; good = e.good; spelled = e.spelled; holds = h _ (e.good, e.holds) }
 
 module _ {E : Type 0} (text : FeedValue → E → List ℕ → Type 0) where
-  -- a feed that does not end is not answered
-  pub ends_not : (f : Fault) (v : Followed) (sink : Device) → EndsNot v f → FollowerAnswersNot text false v f sink sink × (stops f ≡ false)
-  ends_not (fault.Feed found) v sink h = ((h, untouched sink), refl)
-  ends_not (fault.Collision id) v sink h = absurd h
-  ends_not (fault.Equivocation round author first second) v sink h = absurd h
-  ends_not (fault.Unfinished place) v sink h = absurd h
-  ends_not (fault.Write written) v sink h = absurd h
-  ends_not fault.Memory v sink h = absurd h
-
   pub frames_answer : (v : Followed) (taken : Taken) (end : E) (before after : Device) → OfFeed v (λ feed. IsTakenFor feed taken) → WritesAnswer (IsTakenOf taken) text end before after → FollowerAnswers text v end before after
   frames_answer v taken end before after ends w = (on_taken v taken (λ feed. TextIsOut (text feed end) before after) ends w.0, w.1)
 

@@ -7,7 +7,6 @@ use Rattle.bk_results.specs.declared.fault.Fault.TheVariants as fault
 use Rattle.bk_answer.specs.RunReport.{HasNoStopIn, IsStopIn}
 use Rattle.bk_follow.specs.Follower.{BookValue, Followed, FollowsBy, Follows}
 use Rattle.bk_follow.specs.Queries.{NothingStops, IsStopSoFar}
-use Rattle.bk_follow.specs.Ordering.{OrderFails}
 use Rattle.bk_follow.specs.private.Books.{IsGoodBook}
 use Rattle.bk_follow.proofs.Following.{good_of, of_frames}
 
@@ -36,12 +35,3 @@ query_fails (fault.Equivocation round author first second) v b feed is good h = 
 query_fails (fault.Unfinished place) v b feed is good h = absurd (h feed good)
 query_fails (fault.Write written) v b feed is good h = absurd (h feed good)
 query_fails fault.Memory v b feed is good h = absurd (h feed good)
-
--- where all is as it was
-pub query_stops : (f : Fault) (old new : Followed) → new ≡ old → IsStopSoFar old f → OrderFails old new f
-query_stops (fault.Feed found) old new same h = absurd h
-query_stops (fault.Collision id) old new same h = (same, h)
-query_stops (fault.Equivocation round author first second) old new same h = (same, h)
-query_stops (fault.Unfinished place) old new same h = absurd h
-query_stops (fault.Write written) old new same h = absurd h
-query_stops fault.Memory old new same h = absurd h

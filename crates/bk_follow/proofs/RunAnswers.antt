@@ -57,22 +57,12 @@ untouched sink = (refl, Keeps-refl sink.bytes)
 same_book : (b c : BookValue) → Some b ≡ Some c → b ≡ c
 same_book b c same = cc
 
--- there is one
-pub some_closed : (book : Option BookValue) → IsOfClosed book → (b : BookValue) × (book ≡ Some b)
-some_closed book (feed, good, b, is, current) = (b, is)
-
 pub not_executed : (book : Option BookValue) → IsOfClosed book → executed_in book ≡ None → ⊥
 not_executed book (feed, good, b, is, current) none = absurd (let e : None ≡ Some current.done = sym none ∙ (ap executed_in is ∙ current.is_done) in cc)
-
-pub no_order : (book : Option BookValue) → IsOfOrdered book → book ≡ None → ⊥
-no_order book (feed, good, b, is, o) none = absurd (let e : None ≡ Some b = sym none ∙ is in cc)
 
 -- it is made of a feed
 pub made_of : (book : Option BookValue) (b : BookValue) (c : ClosedValue) → IsOfClosed book → book ≡ Some b → IsClosedBook b c → (feed : FeedValue) × IsMadeOf c feed
 made_of book b c (feed, good, d, is, current) same h = (feed, (good, closed_for feed b c (subst (IsCurrent feed) (same_book d b (sym is ∙ same)) current) h))
-
-pub order_made_of : (book : Option BookValue) (b : BookValue) (o : OrderValue) → IsOfOrdered book → book ≡ Some b → o ≡ order_of b → (feed : FeedValue) × IsOrderMadeOf o feed
-order_made_of book b o (feed, good, d, is, ordered) same h = (feed, (good, ordered_for feed b o (subst (IsOrdered feed) (same_book d b (sym is ∙ same)) ordered) h))
 
 -- of the book that there is
 pub book_writes : {E : Type 0} (text : FeedValue → E → List ℕ → Type 0) (book : Option BookValue) (b : BookValue) (c : ClosedValue) (old new : Device) (end : E) → book ≡ Some b → IsClosedBook b c → WritesAnswer (IsMadeOf c) text end old new → IfSome book (λ b. WritesAnswer (IsCurrentOf b) text end old new)
@@ -89,11 +79,6 @@ pub order_writes : {E : Type 0} (text : FeedValue → E → List ℕ → Type 0)
 order_writes text book b o old new end is h w =
     subst (λ (x : Option BookValue). IfSome x (λ b. WritesAnswer (IsOrderedOf b) text end old new)) (sym is)
     (writes_fewer text (IsOrderMadeOf o) (IsOrderedOf b) (λ feed k. (k.0, ordered_for feed b o k.1 h)) old new end w)
-
-pub order_writes_not : {E : Type 0} (text : FeedValue → E → List ℕ → Type 0) (book : Option BookValue) (b : BookValue) (o : OrderValue) (old new : Device) (f : Fault) → book ≡ Some b → o ≡ order_of b → WritesNot (IsOrderMadeOf o) text f old new → IfSome book (λ b. WritesNot (IsOrderedOf b) text f old new)
-order_writes_not text book b o old new f is h w =
-    subst (λ (x : Option BookValue). IfSome x (λ b. WritesNot (IsOrderedOf b) text f old new)) (sym is)
-    (writes_not_fewer text (IsOrderMadeOf o) (IsOrderedOf b) (λ feed k. (k.0, ordered_for feed b o k.1 h)) old new f w)
 
 -- ---- a Follower
 

@@ -1,6 +1,5 @@
 -- The first frame that is a certificate rejected for its tags, of frames that come one group after another.
-use Rattle.std.proofs.Common.{ℕ, ◌+◌, ◌<◌, ◌^◌, inl, inr, List, [], ◌∷◌, ◌++◌, length, Option, Some, None, sym, ap, ◌∙◌, arith, append_assoc, length-append}
-use Rattle.std.specs.Prelude.{IfSome}
+use Rattle.std.proofs.Common.{ℕ, ◌+◌, inl, inr, List, [], ◌∷◌, ◌++◌, length, Option, Some, None, sym, ap, ◌∙◌, arith, append_assoc, length-append}
 use Rattle.std.proofs.lemmas.List.Elements.{Contains-append_cases}
 use Rattle.bk_base.specs.Feed.{Frame}
 use Rattle.bk_committee.specs.Payload.{CommitteeValue}
@@ -27,8 +26,3 @@ first_then k xs ys None (Some w) h (before, f, after, all, none, is, at, c, read
   read,
   wrong,
 )
-
--- the number of a frame that comes after so many fits
-pub later_fits : (k : CommitteeValue) (frames : List Frame) (count : ℕ) (found : Option WrongTag) → IsFirstForged k frames found → count + length frames < 2 ^ 64 → IfSome found (λ w. count + w.frame < 2 ^ 64)
-later_fits k frames count None h few = tt
-later_fits k frames count (Some w) (before, f, after, all, none, is, at, c, read, wrong) few = omega (arith, at, few, ap length all, length-append before (f ∷ after))

@@ -3,7 +3,7 @@ use Rattle.std.proofs.Common.{◌≡◌, ℕ, zero, suc, ◌+◌, ◌^◌, ◌<�
 use Rattle.std.specs.Prelude.{count_by}
 use Rattle.std.specs.List.{AllZip, flat_map}
 use Rattle.std.specs.Global.{Vec}
-use Rattle.std.proofs.lemmas.List.{append-nil, take_more, take_all, take-append-drop}
+use Rattle.std.proofs.lemmas.List.{take_more, take_all, take-append-drop}
 use Rattle.std.proofs.lemmas.List.Concat.{flat_map-append, flat_map-cons}
 use Rattle.std.proofs.lemmas.Slice.Zip.{all_zipped_more}
 use Rattle.bk_base.specs.declared.kind.Kind.{Kind}
@@ -133,30 +133,6 @@ place_fits k start place xs i x old now low there h index offset =
 
 known_one : (k m : CommitteeValue) → Some k ≡ Some m → k ≡ m
 known_one k m e = cc
-
--- a listing that no committee stands for yet goes on with no frame
-pub goes_on_none : (version : Version) (frames : List Frame) (old new : Lister) (lines : List ℕ) → OpensBy version frames old.committee new.committee → new.committee ≡ None → new.place ≡ old.place → new.rejected ≡ old.rejected → new.forged ≡ old.forged → lines ≡ [] → GoesOn version frames old new lines
-goes_on_none version frames old new lines opens none place rejected forged empty before text h = by_old old.committee refl
-  where
-    no_frames : (fs : List Frame) → IsCommitteeOf version fs None → fs ≡ []
-    no_frames [] e = refl
-    no_frames (f ∷ fs) e = absurd cc
-
-    by_old : (o : Option CommitteeValue) → o ≡ old.committee → HasListed version (before ++ frames) (text ++ lines) new
-    by_old (Some m) e = absurd (let is = subst (λ (w : Option CommitteeValue). OpensBy version frames w new.committee) (sym e) opens in let clash : None ≡ Some m = sym none ∙ is in cc)
-    by_old None e =
-        let is : IsCommitteeOf version frames None = subst (IsCommitteeOf version frames) none (subst (λ (w : Option CommitteeValue). OpensBy version frames w new.committee) (sym e) opens) in
-        let same : new.committee ≡ old.committee = none ∙ e in
-        let all : before ++ frames ≡ before = ap (λ (fs : List Frame). before ++ fs) (no_frames frames is) ∙ append-nil before in
-        let whole : text ++ lines ≡ text = ap (λ (t : List ℕ). text ++ t) empty ∙ append-nil text in
-        rw all (rw whole (record {
-          listing = h.listing;
-          committee = rw same h.committee;
-          index = rw place h.index;
-          offset = rw place h.offset;
-          rejected = rw rejected h.rejected;
-          forged = rw forged h.forged;
-        }))
 
 -- and else with the lines of the frames
 pub goes_on : (version : Version) (frames : List Frame) (old new : Lister) (k : CommitteeValue) (rows : List FrameRow) (lines : List ℕ) (found : Option WrongTag) → OpensBy version frames old.committee new.committee → new.committee ≡ Some k → PutsLines k old.place new.place frames [] lines → AllZip (IsRow k) frames rows → new.rejected ≡ old.rejected + count_by is_rejected rows

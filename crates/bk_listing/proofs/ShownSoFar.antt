@@ -144,10 +144,6 @@ can_list_front given offset taken text r l front listed written = record {
   none = λ none. back_empty taken (waiting r) (front_none given offset r.cutter.version (taken ++ waiting r) none front);
 }
 
-any_version : (o : Option Version) → (v : Version) × CanBe o v
-any_version None = (version.One, tt)
-any_version (Some v) = (v, refl)
-
 -- the listing of the front of bytes is the listing up to its end
 listing_to : (given : List ℕ) (offset : ℕ) (frames : List Frame) (text : List ℕ) (o : Option Version) → AreFront given offset o frames → ((v : Version) → CanBe o v → IsListing v frames text) → IsListingTo given offset text
 listing_to given offset frames text None front listed = no_frames front.0 (subst (λ (fs : List Frame). IsListing version.One fs text) front.1 (listed version.One tt))

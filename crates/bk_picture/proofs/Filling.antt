@@ -1,5 +1,5 @@
 -- Cells and columns, one more at a time.
-use Rattle.std.proofs.Common.{◌≡◌, ℕ, ◌+◌, ◌<◌, ⊎_elim, List, [], ◌∷◌, ◌++◌, length, get_or, refl, sym, ◌∙◌, subst, arith, length-append}
+use Rattle.std.proofs.Common.{◌≡◌, ℕ, ◌+◌, ◌<◌, ⊎_elim, List, [], ◌∷◌, ◌++◌, length, get_or, sym, ◌∙◌, subst, arith, length-append}
 use Rattle.std.specs.Prelude.{slice_index_or}
 use Rattle.std.proofs.lemmas.List.{get_or_append_left, get_or_default}
 use Rattle.std.proofs.Math.Seq.{get_or-append_seam}
@@ -24,18 +24,12 @@ each_more {X} P n xs new size each is k d low = ⊎_elim
     (subst (P n) (sym (get_or-append_seam xs new [] d)) is)))
     (cases_lt k n)
 
-pub cells_none : (g : Graph) (from round : ℕ) → AreCellsBelow g from round 0 []
-cells_none g from round = record { sized = refl; each = λ x d low. absurd (omega (arith, low)) }
-
 pub cells_more : (g : Graph) (from round n : ℕ) (cells : List Cell) (new : Cell) → AreCellsBelow g from round n cells → IsCellOf g from (at_place round n) new
     → AreCellsBelow g from round (n + 1) (cells ++ new ∷ [])
 cells_more g from round n cells new h is = record {
   sized = let size = h.sized in omega (arith, length-append cells (new ∷ []), size);
   each = each_more (λ (x : ℕ) (cell : Cell). IsCellOf g from (at_place round x) cell) n cells new h.sized h.each is;
 }
-
-pub columns_none : (g : Graph) (rows : List AnchorRow) (from : ℕ) → AreColumnsBelow g rows from 0 []
-columns_none g rows from = record { sized = refl; each = λ k d low. absurd (omega (arith, low)) }
 
 pub columns_more : (g : Graph) (rows : List AnchorRow) (from n : ℕ) (columns : List Column) (new : Column) → AreColumnsBelow g rows from n columns → IsColumnOf g rows from (from + n) new
     → AreColumnsBelow g rows from (n + 1) (columns ++ new ∷ [])

@@ -18,9 +18,6 @@ use Rattle.bk_picture.specs.private.Last.{IsLatest}
 only_first : (a b : CertRef) → Contains (a ∷ []) b → a ≡ b
 only_first a b t = ⊎_elim (λ e. e) (λ none. absurd (none_in_nil b none)) (contains_cases a [] b t)
 
-pub latest_none : IsLatest [] 0
-latest_none = record { highest = λ a t. absurd (none_in_nil a t); reached = λ some. absurd (omega (arith, some)) }
-
 highest_more : (xs : List CertRef) (a : CertRef) (old new : ℕ) → new ≡ max old a.round → IsLatest xs old
     → (b : CertRef) → Contains (xs ++ a ∷ []) b → b.round ≤ new
 highest_more xs a old new e h b t = ⊎_elim

@@ -1,5 +1,5 @@
 -- Texts that are put one after another: the front of a whole.
-use Rattle.std.proofs.Common.{◌≡◌, ℕ, ◌+◌, ◌≤◌, List, [], ◌++◌, sym, ap, subst, ◌∙◌, append_assoc, arith}
+use Rattle.std.proofs.Common.{◌≡◌, ℕ, ◌+◌, ◌≤◌, List, [], ◌++◌, sym, ap, subst, ◌∙◌, append_assoc}
 use Rattle.std.proofs.lemmas.List.{append-nil}
 use Rattle.bk_frames.specs.Device.{Device}
 use Rattle.bk_report.specs.Pages.{Desk, HasPut, IsReady, Puts}
@@ -30,10 +30,6 @@ all_done {a} {b} {m} {whole} {rest} most e h few = puts_as most whole h.puts few
 -- the same rest by other words
 pub same_rest : {a b : Desk} {m : ℕ} {whole rest : List ℕ} (rest' : List ℕ) → rest ≡ rest' → IsDone a b m whole rest → IsDone a b m whole rest'
 same_rest {a} {b} {m} {whole} {rest} rest' e h = subst (λ (t : List ℕ). IsDone a b m whole t) e h
-
--- nothing was put, and that is the text
-pub unchanged : {a : Desk} (most : ℕ) (text : List ℕ) → IsReady a → text ≡ [] → Puts a a most text
-unchanged {a} most text ready e = puts_as most text (puts_nothing most ready) (omega arith) (sym e)
 
 -- what was put stays where nothing more is put
 pub still_put : {p q : Desk} {m : ℕ} (start : Device) (text : List ℕ) → Puts p q m [] → HasPut start p text → HasPut start q text

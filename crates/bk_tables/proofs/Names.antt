@@ -34,15 +34,6 @@ any_digests d (m ∷ list) = ap (λ (b : Bool). bytes_eq d m.digest || b) (any_d
 pub named_added : (list now : List Named) (n : Named) → now ≡ cond (list_any (λ (m : Named). bytes_eq n.digest m.digest) list) list (list ++ n ∷ []) → now ≡ with_named list n
 named_added list now n is = is ∙ ap (λ (b : Bool). cond b list (list ++ n ∷ [])) (any_digests n.digest list)
 
-pub names_one_more : (by : Placed) (ds : List (List ℕ)) (k : ℕ) (d : List ℕ) (old now : List Named) → k < length ds → d ≡ get_or ds k d → now ≡ fold with_named old (named_by by (take k ds))
-    → with_named now (record { digest = d; by = by }) ≡ fold with_named old (named_by by (take (k + 1) ds))
-names_one_more by ds k d old now low here is =
-    let named : List ℕ → Named = λ (x : List ℕ). record { digest = x; by = by } in
-    ap (λ (ns : List Named). with_named ns (named d)) is
-    ∙ sym (fold-append with_named old (named_by by (take k ds)) (named d ∷ []))
-    ∙ ap (fold with_named old) (sym (map-append named (take k ds) (d ∷ [])))
-    ∙ ap (λ (xs : List (List ℕ)). fold with_named old (named_by by xs)) (sym (take_more ds k d low ∙ ap (λ (x : List ℕ). take k ds ++ x ∷ []) (sym here)))
-
 pub certs_one_more : (held : List Node) (placed : List Placed) (k : ℕ) (by d : Placed) (old now more : List Named) → k < length placed → get_or placed k d ≡ by
     → now ≡ fold with_named old (flat_map (named_at held) (take k placed)) → more ≡ fold with_named now (named_at held by)
     → more ≡ fold with_named old (flat_map (named_at held) (take (k + 1) placed))

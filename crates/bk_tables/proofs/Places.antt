@@ -2,7 +2,7 @@
 use Rattle.std.proofs.Common.{◌≡◌, ℕ, zero, suc, ◌+◌, ◌<◌, ◌≤◌, List, [], ◌∷◌, ◌++◌, length, map, take, drop, get_or, refl, sym, ap, subst, ◌∙◌, ⊎_elim, arith}
 use Rattle.std.specs.Prelude.{reverse}
 use Rattle.std.specs.List.{Contains}
-use Rattle.std.proofs.lemmas.List.{append_cancel_left, map-append, reverse-append, take-append-drop, take_all, take_more}
+use Rattle.std.proofs.lemmas.List.{append_cancel_left, map-append, reverse-append, take-append-drop, take_more}
 use Rattle.std.proofs.lemmas.List.Elements.{Contains-append_right, Contains-append_cases, Contains-get_or}
 use Rattle.bk_committee.specs.Sizes.{Sizes}
 use Rattle.bk_cert.specs.Node.{Node}
@@ -16,7 +16,7 @@ use Rattle.bk_flatten.proofs.Extended.{order_has_history}
 use Rattle.bk_flatten.proofs.Orders.{one_order_back}
 use Rattle.bk_flatten.proofs.Whole.{anchor_way, reverse_push}
 use Rattle.bk_tables.specs.Batches.{IsOrderedIn}
-use Rattle.bk_tables.specs.private.Placing.{ArePlaced, certs_of, placed_with}
+use Rattle.bk_tables.specs.private.Placing.{certs_of, placed_with}
 use Rattle.bk_tables.specs.declared.placing.Placed.{Placed}
 
 abbrev pub nobody : CertRef
@@ -128,13 +128,6 @@ pub record HasPlaced (z : Sizes) (held : List Node) (anchors : List CertRef) (i 
   pub certs : certs_of placed ≡ flat
   pub each : (p : Placed) → Contains placed p → IsOrderedIn z held anchors p.cert p.anchor
 
-pub none_placed : (z : Sizes) (held : List Node) (anchors flat : List CertRef) (placed : List Placed) → flat ≡ [] → placed ≡ [] → HasPlaced z held anchors 0 flat placed
-none_placed z held anchors flat placed e f = record {
-  order = e;
-  certs = ap certs_of f ∙ sym e;
-  each = λ p t. absurd (none_in_nil p (subst (λ (ps : List Placed). Contains ps p) f t));
-}
-
 pub more_placed : (z : Sizes) (held : List Node) (anchors : List CertRef) (i : ℕ) (flat flat' part : List CertRef) (placed : List Placed) → IsCommitted z held anchors → i < length anchors
     → HasPlaced z held anchors i flat placed → flat' ≡ flat ++ part → ((ps : List CertRef) → IsWayBack z held (get_or anchors i nobody) ps → IsOrder z held (get_or anchors i nobody ∷ ps) flat')
     → HasPlaced z held anchors (i + 1) flat' (placed ++ map (placed_with (get_or anchors i nobody).round) part)
@@ -152,10 +145,3 @@ more_placed z held anchors i flat flat' part placed settled low h e goes_on =
           (added z held anchors i settled low flat part h.order (subst (IsOrder z held (anchor ∷ reverse (take i anchors))) e new) f.0 f.1))
           (Contains-append_cases placed (map (placed_with anchor.round) part) p t);
     }
-
-pub all_placed : (z : Sizes) (held : List Node) (anchors : List CertRef) (i : ℕ) (flat : List CertRef) (placed : List Placed) → length anchors ≤ i → HasPlaced z held anchors i flat placed
-    → ArePlaced z held anchors placed
-all_placed z held anchors i flat placed high h = record {
-  order = subst (λ (xs : List CertRef). IsOrder z held (reverse xs) (certs_of placed)) (take_all i anchors high) (subst (IsOrder z held (reverse (take i anchors))) (sym h.certs) h.order);
-  each = h.each;
-}

@@ -1,7 +1,7 @@
 -- Slots that are made for transactions, some at a time.
-use Rattle.std.proofs.Common.{◌≡◌, ℕ, ◌+◌, ◌≤◌, Bool, ◌||◌, true, List, [], ◌∷◌, ◌++◌, length, drop, take, Option, Some, refl, sym, ap, subst, ◌∙◌, append-nil, append_assoc, take_all}
+use Rattle.std.proofs.Common.{◌≡◌, ℕ, ◌+◌, ◌≤◌, Bool, ◌||◌, true, List, [], ◌++◌, length, drop, take, Option, Some, refl, sym, ap, subst, ◌∙◌, append-nil, append_assoc, take_all}
 use Rattle.std.specs.Prelude.{slice_get}
-use Rattle.std.proofs.lemmas.List.Concat.{flat_map-append, flat_map-cons}
+use Rattle.std.proofs.lemmas.List.Concat.{flat_map-cons}
 use Rattle.bk_base.specs.declared.version.Version.{Version}
 use Rattle.bk_base.specs.declared.version.Version.TheVariants.{One, Two}
 use Rattle.bk_tx.specs.Batches.{transactions_in, transactions_of}
@@ -9,7 +9,7 @@ use Rattle.bk_tx.specs.Transaction.{Transaction}
 use Rattle.bk_rules.specs.Ledger.{IsPrepared, Ledger, are_covered, has_slot, has_slot_after, is_declared_by}
 use Rattle.bk_ledger.proofs.Covering.{covered_both, covered_kept}
 use Rattle.bk_tables.specs.private.Walking.{HasSlotsFor}
-use Rattle.bk_tables.proofs.BatchWalks.{drop_at, take_at_next}
+use Rattle.bk_tables.proofs.BatchWalks.{drop_at}
 use Rattle.bk_tables.proofs.TableTexts.{drop_past}
 
 -- of the transactions so far all but the last have slots; these wait
@@ -53,12 +53,6 @@ pub all_made : (all : List (Option Transaction)) (old now : Ledger) → AreMakin
 all_made all old now h = subst (λ (ts : List (Option Transaction)). HasSlotsFor ts old now) (sym (h.split ∙ append-nil h.done)) h.ready
 
 -- ---- the transactions of batches
-
-pub next_txs : (payloads : List (List ℕ)) (i : ℕ) (payload : List ℕ) → slice_get payloads i ≡ Some payload → transactions_of (take (i + 1) payloads) ≡ transactions_of (take i payloads) ++ transactions_in payload
-next_txs payloads i payload here =
-    ap transactions_of (take_at_next payloads i payload here)
-    ∙ flat_map-append transactions_in (take i payloads) (payload ∷ [])
-    ∙ ap (λ (ts : List (Option Transaction)). transactions_of (take i payloads) ++ ts) (flat_map-cons transactions_in payload [] ∙ append-nil (transactions_in payload))
 
 pub all_txs : (payloads : List (List ℕ)) (i : ℕ) → length payloads ≤ i → transactions_of (take i payloads) ≡ transactions_of payloads
 all_txs payloads i high = ap transactions_of (take_all i payloads high)

@@ -1,7 +1,7 @@
 -- The text of rows.
-use Rattle.std.proofs.Common.{◌≡◌, ℕ, suc, zero, ◌+◌, ◌<◌, ◌≤◌, Bool, true, false, cond, List, [], ◌∷◌, ◌++◌, length, drop, get_or, map, Option, refl, sym, ap, ◌∙◌, arith}
+use Rattle.std.proofs.Common.{◌≡◌, ℕ, suc, zero, ◌+◌, ◌<◌, ◌≤◌, List, [], ◌∷◌, ◌++◌, length, drop, get_or, map, Option, refl, sym, ap, ◌∙◌, arith}
 use Rattle.std.specs.Prelude.{filter}
-use Rattle.std.proofs.lemmas.List.{append-nil, map-append}
+use Rattle.std.proofs.lemmas.List.{map-append}
 use Rattle.std.proofs.lemmas.List.Concat.{flat_map-append, flat_map-cons}
 use Rattle.std.proofs.lemmas.List.Elements.{filter-append}
 use Rattle.bk_tx.specs.declared.payments.Payment.{Payment}
@@ -43,14 +43,6 @@ payments_two ids xs ys =
     ap (λ (rows : List PaymentRow). table_text (map payment_fields rows)) (filter-append (picks_payment ids) xs ys)
     ∙ ap table_text (map-append payment_fields (filter (picks_payment ids) xs) (filter (picks_payment ids) ys))
     ∙ flat_map-append row_text (map payment_fields (filter (picks_payment ids) xs)) (map payment_fields (filter (picks_payment ids) ys))
-
-pub payment_shown : (ids : Option (List ℕ)) (row : PaymentRow) → picks_payment ids row ≡ true → row_text (payment_fields row) ≡ payments_text ids (row ∷ [])
-payment_shown ids row e =
-    sym (flat_map-cons row_text (payment_fields row) [] ∙ append-nil (row_text (payment_fields row)))
-    ∙ ap (λ (b : Bool). table_text (map payment_fields (cond b (row ∷ []) []))) (sym e)
-
-pub payment_hidden : (ids : Option (List ℕ)) (row : PaymentRow) → picks_payment ids row ≡ false → payments_text ids (row ∷ []) ≡ []
-payment_hidden ids row e = ap (λ (b : Bool). table_text (map payment_fields (cond b (row ∷ []) []))) e
 
 -- the rows of a split, one after another
 pub split_next : (ids : Option (List ℕ)) (at : At) (asks : Payment → Asked) (payments : List Payment) (i : ℕ) (d : Payment) → i < length payments
